@@ -1,0 +1,9 @@
+use Rattle.std.proofs.Common.{◌∙◌}
+use Rattle.std.proofs.lemmas.Str.{IsUtf8-string_bytes}
+use Rattle.vtl_values.proofs.TextOrder.{slice_cmp-chars}
+use Rattle.vtl_values.proofs.word.WordOrd.cmp.Goals as goal
+
+pub returns : goal.returns
+returns c =
+    rw (← c.self.view_is, ← c.other.view_is)
+    (c.cmp.ensures ∙ slice_cmp-chars _ _ (IsUtf8-string_bytes c.self.inside.text) (IsUtf8-string_bytes c.other.inside.text))
