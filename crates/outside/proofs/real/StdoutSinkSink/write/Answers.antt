@@ -1,0 +1,6 @@
+use Rattle.std.proofs.Common.{refl, arith}
+use Rattle.outside.proofs.Writes.{took_all}
+use Rattle.outside.proofs.real.StdoutSinkSink.write.Goals as goal
+
+pub returns-in-Ok : goal.returns-in-Ok
+returns-in-Ok g c = record { later = omega arith; failed = λ no. grind arith; took = took_all refl }

@@ -1,0 +1,5 @@
+pub mod Counts
+pub mod Memory
+pub mod Real
+pub mod Shelves
+pub mod Sinks
