@@ -1,0 +1,3 @@
+pub mod DeltaLemmas
+pub mod MapLemmas
+pub mod OutcomeLemmas

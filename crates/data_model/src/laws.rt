@@ -1,0 +1,60 @@
+// Laws of the definitions, over keys of any order in which only equal keys tie.
+ghost use Rattle.std.specs.Prelude.{◌≡◌, ◌≢◌, ◌+◌, ℕ, List, Option, None, Bool, true, false, if◌then◌else◌, option_and_then};
+ghost use Rattle.std.specs.Option.{option_or, option_zip};
+ghost use Rattle.std.specs.FinMap.{FinMap, IsAntisymmetric, empty, get, len, retain_keys};
+ghost use Rattle.data_model.specs.Maps.{is_listed, made_at, key_by_key, union, matched};
+ghost use Rattle.data_model.specs.Deltas.{DeltaOf, IsEqualityTest, after, BeginsAt, Leads, apply, built, composed, delta_between, gained, lost};
+ghost use Rattle.data_model.specs.Outcomes.{Outcome, Covers, IsOutcome, outcome};
+
+/// What maps that are made from others have at a key.
+pub fn values_at_a_key<K: Ord, X, Y>()
+    requires exact { IsAntisymmetric K.cmp }
+    ensures made { (ks : List K) (f : K → Option X) (k : K) → get (made_at {R = K.cmp} ks f) k ≡ (if is_listed K.cmp ks k then f k else None) }
+    ensures key_by_key { (f : K → X → Option Y) (m : FinMap K.cmp X) (k : K) → get (key_by_key f m) k ≡ option_and_then (f k) (get m k) }
+    ensures leftmost { (m n : FinMap K.cmp X) (k : K) → get (union m n) k ≡ option_or (get m k) (get n k) }
+    ensures both { (m : FinMap K.cmp X) (n : FinMap K.cmp Y) (k : K) → get (matched m n) k ≡ option_zip (get m k) (get n k) }
+{}
+
+/// Between any two maps there is a right delta; from nothing it is the one that builds the map.
+pub fn right_delta_exists<K: Ord, X>()
+    requires exact { IsAntisymmetric K.cmp }
+    ensures between { (same : X → X → Bool) (m n : FinMap K.cmp X) → IsEqualityTest same → Leads (delta_between same m n) m n }
+    ensures from_nothing { (m : FinMap K.cmp X) → Leads (built m) empty m }
+{}
+
+/// There is one right delta between two maps, and it names exactly the keys whose point changes.
+pub fn right_delta_is_unique<K: Ord, X>()
+    requires exact { IsAntisymmetric K.cmp }
+    ensures unique { (d e : DeltaOf K.cmp X) (m n : FinMap K.cmp X) → Leads d m n → Leads e m n → d ≡ e }
+    ensures only_changed { (d : DeltaOf K.cmp X) (m n : FinMap K.cmp X) (k : K) → Leads d m n → get m k ≡ get n k → get d k ≡ None }
+    ensures all_changed { (d : DeltaOf K.cmp X) (m n : FinMap K.cmp X) (k : K) → Leads d m n → get d k ≡ None → get m k ≡ get n k }
+{}
+
+/// A delta puts its new points in place, and the number of points goes by what it brings and what
+/// it takes away.
+pub fn delta_applies<K: Ord, X>()
+    requires exact { IsAntisymmetric K.cmp }
+    ensures at_a_key { (d : DeltaOf K.cmp X) (m : FinMap K.cmp X) (k : K) → get (apply d m) k ≡ after (get d k) (get m k) }
+    ensures points { (d : DeltaOf K.cmp X) (m : FinMap K.cmp X) → BeginsAt d m → len (apply d m) + lost d ≡ len m + gained d }
+{}
+
+/// Two deltas, one after the other, are one from before the first to after the second, and a key
+/// that comes back to its point isn't in it.
+pub fn deltas_compose<K: Ord, X>()
+    requires exact { IsAntisymmetric K.cmp }
+    ensures leads { (same : X → X → Bool) (d e : DeltaOf K.cmp X) (l m n : FinMap K.cmp X) → IsEqualityTest same → Leads d l m → Leads e m n → Leads (composed same d e) l n }
+    ensures comes_back { (same : X → X → Bool) (d e : DeltaOf K.cmp X) (l m n : FinMap K.cmp X) (k : K) → IsEqualityTest same → Leads d l m → Leads e m n → get l k ≡ get n k → get (composed same d e) k ≡ None }
+{}
+
+/// The part of a map that no change touches is the same before and after.
+pub fn untouched_part_stays<K: Ord, X>()
+    requires exact { IsAntisymmetric K.cmp }
+    ensures { (in_part : K → Bool) (d : DeltaOf K.cmp X) (m n : FinMap K.cmp X) → Leads d m n → ((k : K) → in_part k ≡ true → get d k ≡ None) → retain_keys n in_part ≡ retain_keys m in_part }
+{}
+
+/// `outcome` is the outcome in words, and there is no other.
+pub fn outcome_is_unique<K: Ord, X>()
+    requires exact { IsAntisymmetric K.cmp }
+    ensures computed { (evaluated : List K) (beyond : K → Bool) (keys : List K) (value : K → Option X) → Covers K.cmp evaluated beyond keys value → IsOutcome {R = K.cmp} beyond value (outcome evaluated beyond keys value) }
+    ensures unique { (beyond : K → Bool) (value : K → Option X) (p q : Outcome K.cmp X) → IsOutcome beyond value p → IsOutcome beyond value q → p ≡ q }
+{}
