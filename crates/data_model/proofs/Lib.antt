@@ -1,3 +1,4 @@
 pub mod DeltaLemmas
+pub mod DraftLemmas
 pub mod MapLemmas
 pub mod OutcomeLemmas

@@ -8,7 +8,7 @@ use Rattle.std.specs.Ordering.{is_lt, eq_by_cmp, ordering_reverse}
 use Rattle.std.specs.Cmp.{IsTotalOrder, tied_itself}
 use Rattle.std.specs.FinMap.{FinMap, get, len, IsAntisymmetric, same_map}
 use Rattle.data_model.specs.Maps.{is_listed, made_at}
-use Rattle.data_model.specs.Outcomes.{Made, Range, TooMany, Outcome, settled, lesser, least, IsLeast, Covers, outcome, IsResult, IsOutcome}
+use Rattle.data_model.specs.Outcomes.{Made, Range, TooMany, Outcome, settled, lesser, least, IsLeast, IsLeastListed, Covers, outcome, IsResult, IsOutcome}
 use Rattle.data_model.proofs.MapLemmas.{tied, get-made_at_all}
 use Rattle.data_model.proofs.DeltaLemmas.{contradicted}
 use Rattle.data_model.specs.declared.TheConstants.{POINT_LIMIT}
@@ -53,59 +53,60 @@ module _ {K : Type 0} {R : K → K → Ordering} (o : IsTotalOrder R) (exact : I
   pub IsLeast-unique : (p : K → Bool) (j k : K) → IsLeast R p j → IsLeast R p k → j ≡ k
   IsLeast-unique p j k h g = neither_below j k (g.lowest j h.passes) (h.lowest k g.passes)
 
-  -- of the listed keys that pass r is the least, or there is none
-  abbrev pub IsLeastListed : (K → Bool) → List K → Option K → Type 0
-  IsLeastListed p ks None = (j : K) → is_listed R ks j ≡ true → p j ≡ false
-  IsLeastListed p ks (Some k) = (p k ≡ true) × ((j : K) → is_listed R ks j ≡ true → p j ≡ true → R j k ≢ Less)
+  -- the list js has the key k, and the keys of ks
+  abbrev pub HasOneMore : List K → K → List K → Type 0
+  HasOneMore ks k js = (q : K) → is_listed R js q ≡ (eq_by_cmp R q k || is_listed R ks q)
 
-  skipped : (p : K → Bool) (k : K) (ks : List K) (r : Option K) → p k ≡ false → IsLeastListed p ks r → IsLeastListed p (k ∷ ks) r
-  skipped p k ks None pk h = λ j i. elim (cases_Bool (eq_by_cmp R j k)) [
+  -- one key more that doesn't pass
+  pub IsLeastListed-fails : (p : K → Bool) (k : K) (ks js : List K) (r : Option K) → HasOneMore ks k js → p k ≡ false → IsLeastListed R p ks r → IsLeastListed R p js r
+  IsLeastListed-fails p k ks js None more pk h = λ j i. elim (cases_Bool (eq_by_cmp R j k)) [
     | inl yes' ↦ ap p (tied o exact j k yes') ∙ pk
-    | inr no' ↦ h j (in_rest _ _ no' i)
+    | inr no' ↦ h j (in_rest _ _ no' (sym (more j) ∙ i))
   ]
-  skipped p k ks (Some l) pk h = (
+  IsLeastListed-fails p k ks js (Some l) more pk h = (
     h.0,
     λ j i pj. elim (cases_Bool (eq_by_cmp R j k)) [
       | inl yes' ↦ contradicted (p j) pj (ap p (tied o exact j k yes') ∙ pk)
-      | inr no' ↦ h.1 j (in_rest _ _ no' i) pj
+      | inr no' ↦ h.1 j (in_rest _ _ no' (sym (more j) ∙ i)) pj
     ],
   )
 
-  taken : (p : K → Bool) (k : K) (ks : List K) (r : Option K) → p k ≡ true → IsLeastListed p ks r → IsLeastListed p (k ∷ ks) (Some (lesser R k r))
-  taken p k ks None pk h = (
+  -- one key more that passes
+  pub IsLeastListed-passes : (p : K → Bool) (k : K) (ks js : List K) (r : Option K) → HasOneMore ks k js → p k ≡ true → IsLeastListed R p ks r → IsLeastListed R p js (Some (lesser R k r))
+  IsLeastListed-passes p k ks js None more pk h = (
     pk,
     λ j i pj. elim (cases_Bool (eq_by_cmp R j k)) [
       | inl yes' ↦ not_below_tied j k (tied o exact j k yes')
-      | inr no' ↦ contradicted (p j) pj (h j (in_rest _ _ no' i))
+      | inr no' ↦ contradicted (p j) pj (h j (in_rest _ _ no' (sym (more j) ∙ i)))
     ],
   )
-  taken p k ks (Some l) pk h = elim (cases_Bool (is_lt (R l k))) [
+  IsLeastListed-passes p k ks js (Some l) more pk h = elim (cases_Bool (is_lt (R l k))) [
     | inl low ↦ rw low (
       h.0,
       λ j i pj. elim (cases_Bool (eq_by_cmp R j k)) [
         | inl yes' ↦ subst (λ t. R t l ≢ Less) (sym (tied o exact j k yes')) (not_both_below l k (less _ low))
-        | inr no' ↦ h.1 j (in_rest _ _ no' i) pj
+        | inr no' ↦ h.1 j (in_rest _ _ no' (sym (more j) ∙ i)) pj
       ],
     )
     | inr high ↦ rw high (
       pk,
       λ j i pj. elim (cases_Bool (eq_by_cmp R j k)) [
         | inl yes' ↦ not_below_tied j k (tied o exact j k yes')
-        | inr no' ↦ not_below j k l (h.1 j (in_rest _ _ no' i) pj) (λ e. contradicted (is_lt (R l k)) (ap is_lt e) high)
+        | inr no' ↦ not_below j k l (h.1 j (in_rest _ _ no' (sym (more j) ∙ i)) pj) (λ e. contradicted (is_lt (R l k)) (ap is_lt e) high)
       ],
     )
   ]
 
   -- `least` is the least of the listed keys that pass
-  pub least-is : (p : K → Bool) (ks : List K) → IsLeastListed p ks (least R p ks)
+  pub least-is : (p : K → Bool) (ks : List K) → IsLeastListed R p ks (least R p ks)
   least-is p [] = λ j i. cc
   least-is p (k ∷ ks) = elim (cases_Bool (p k)) [
-    | inl yes' ↦ rw yes' (taken p k ks _ yes' (least-is p ks))
-    | inr no' ↦ rw no' (skipped p k ks _ no' (least-is p ks))
+    | inl yes' ↦ rw yes' (IsLeastListed-passes p k ks (k ∷ ks) _ (λ q. refl) yes' (least-is p ks))
+    | inr no' ↦ rw no' (IsLeastListed-fails p k ks (k ∷ ks) _ (λ q. refl) no' (least-is p ks))
   ]
 
   -- and of all keys, where no other passes
-  pub IsLeast-listed : (p : K → Bool) (ks : List K) (k : K) → ((j : K) → is_listed R ks j ≡ false → p j ≡ false) → IsLeastListed p ks (Some k) → IsLeast R p k
+  pub IsLeast-listed : (p : K → Bool) (ks : List K) (k : K) → ((j : K) → is_listed R ks j ≡ false → p j ≡ false) → IsLeastListed R p ks (Some k) → IsLeast R p k
   IsLeast-listed p ks k covers h = record {
     passes = h.0;
     lowest = λ j pj. elim (cases_Bool (is_listed R ks j)) [
@@ -114,7 +115,7 @@ module _ {K : Type 0} {R : K → K → Ordering} (o : IsTotalOrder R) (exact : I
     ];
   }
 
-  pub none_passes-listed : (p : K → Bool) (ks : List K) → ((j : K) → is_listed R ks j ≡ false → p j ≡ false) → IsLeastListed p ks None → (j : K) → p j ≡ false
+  pub none_passes-listed : (p : K → Bool) (ks : List K) → ((j : K) → is_listed R ks j ≡ false → p j ≡ false) → IsLeastListed R p ks None → (j : K) → p j ≡ false
   none_passes-listed p ks covers h j = elim (cases_Bool (is_listed R ks j)) [
     | inl yes' ↦ h j yes'
     | inr no' ↦ covers j no'
@@ -130,7 +131,7 @@ module _ {K X : Type 0} {R : K → K → Ordering} (o : IsTotalOrder R) (exact :
     | inr no' ↦ rw no' (m, h, grind (arith, nat_tests, no', e))
   ]
 
-  settled-is : (evaluated : List K) (beyond : K → Bool) (keys : List K) (value : K → Option X) → Covers R evaluated beyond keys value → (r : Option K) → IsLeastListed o exact beyond evaluated r → (m : FinMap R X) → ((k : K) → get m k ≡ value k) → IsOutcome beyond value (settled r (len m) m)
+  settled-is : (evaluated : List K) (beyond : K → Bool) (keys : List K) (value : K → Option X) → Covers R evaluated beyond keys value → (r : Option K) → IsLeastListed R beyond evaluated r → (m : FinMap R X) → ((k : K) → get m k ≡ value k) → IsOutcome beyond value (settled r (len m) m)
   settled-is evaluated beyond keys value covers None h m has = IsOutcome-result beyond value m (len m) refl record { in_range = none_passes-listed o exact beyond evaluated covers.evaluations h; values = has }
   settled-is evaluated beyond keys value covers (Some k) h m has = IsLeast-listed o exact beyond evaluated k covers.evaluations h
 

@@ -3,7 +3,8 @@ use Rattle.std.specs.Prelude.{◌≡◌, ◌≢◌, ℕ, ◌+◌, ◌-◌, Optio
 use Rattle.std.specs.Bool.{Decides}
 use Rattle.std.specs.Option.{IfSome, option_eq}
 use Rattle.std.specs.declared.cmp.Ordering.{Ordering}
-use Rattle.std.specs.FinMap.{FinMap, get, values}
+use Rattle.std.specs.Coded.{Coded, coded×, coded_option}
+use Rattle.std.specs.FinMap.{FinMap, get, values, code}
 use Rattle.data_model.specs.Maps.{combined, key_by_key}
 
 -- an old and a new value; None stands where there is no point
@@ -86,3 +87,6 @@ module _ {K X : Type 0} {R : K → K → Ordering} where
   -- how many points there are after d, of so many before
   abbrev pub count_after : ℕ → DeltaOf R X → ℕ
   count_after before d = (before + gained d) - lost d
+
+  abbrev pub coded_delta : Coded K → Coded X → Coded (DeltaOf R X)
+  coded_delta k x = code k (coded× (coded_option x) (coded_option x))

@@ -38,6 +38,11 @@ module _ {K : Type 0} (R : K → K → Ordering) where
     pub passes : p k ≡ true
     pub lowest : (j : K) → p j ≡ true → R j k ≢ Less
 
+  -- of the listed keys that pass r is the least, or there is none
+  abbrev pub IsLeastListed : (K → Bool) → List K → Option K → Type 0
+  IsLeastListed p ks None = (j : K) → is_listed R ks j ≡ true → p j ≡ false
+  IsLeastListed p ks (Some k) = (p k ≡ true) × ((j : K) → is_listed R ks j ≡ true → p j ≡ true → R j k ≢ Less)
+
   -- an evaluation at a key that isn't listed is never out of range, and there is no point at a key that isn't listed
   pub record Covers {X : Type 0} (evaluated : List K) (beyond : K → Bool) (keys : List K) (value : K → Option X) : Type 0 where
     pub evaluations : (k : K) → is_listed R evaluated k ≡ false → beyond k ≡ false
