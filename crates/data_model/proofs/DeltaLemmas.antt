@@ -1,19 +1,21 @@
 -- Deltas: the right one is unique, names what changes alone, and leads on through others.
-use Rattle.std.proofs.Common.{◌≡◌, ◌≢◌, ◌+◌, ◌<◌, List, [], ◌∷◌, map, Option, Some, None, Bool, true, false, cond, sym, ◌∙◌, ap, refl, subst, T, inl, inr, ◌&&◌, arith, ℕ, option_and_then, option_map}
-use Rattle.std.specs.Prelude.{count_by}
+use Rattle.std.proofs.Common.{◌≡◌, ◌≢◌, ◌+◌, ◌<◌, List, [], ◌∷◌, map, Option, Some, None, Bool, true, false, cond, sym, ◌∙◌, ap, refl, subst, T, inl, inr, arith, ℕ, option_and_then, option_map}
+use Rattle.std.specs.Prelude.{is_some, not, count_by}
 use Rattle.std.specs.Bool.{Decides}
-use Rattle.std.specs.Option.{IfSome, option_eq}
+use Rattle.std.specs.Option.{option_or, IfSome, option_eq}
 use Rattle.std.specs.declared.cmp.Ordering.{Ordering}
-use Rattle.std.specs.declared.cmp.Ordering.TheVariants.{Less, Equal, Greater}
-use Rattle.std.specs.Ordering.{is_lt, is_eq, eq_by_cmp}
+use Rattle.std.specs.Ordering.{eq_by_cmp}
 use Rattle.std.specs.Cmp.{IsTotalOrder}
-use Rattle.std.specs.FinMap.{FinMap, get, len, empty, entries, retain_keys, find, is_sorted, IsAntisymmetric, get-empty, get-entries, entries_sorted, same_map, len-insert, len-remove, empty_of_len}
-use Rattle.std.specs.FinMap.Entries.{below_all}
+use Rattle.std.specs.List.{filter}
+use Rattle.std.specs.FinMap.Entries.{find-where_key}
+use Rattle.data_model.specs.Entries.{new_entries, entries_after}
+use Rattle.std.specs.FinMap.{from_entries, get-from_entries, FinMap, get, len, empty, entries, retain_keys, find, is_sorted, IsAntisymmetric, get-empty, get-entries, entries_sorted, same_map, len-insert, len-remove, empty_of_len}
 use Rattle.std.proofs.lemmas.Bool.{cases_Bool, cases_lt}
 use Rattle.std.proofs.lemmas.List.Sums.{sum_by-cons}
 use Rattle.data_model.specs.Maps.{put}
 use Rattle.data_model.specs.Deltas.{Pair, DeltaOf, after, LeadsAt, IsEqualityTest, change_between, composed_change, is_gain, is_loss, apply, BeginsAt, Differs, Leads, delta_between, built, composed, gained, lost, count_after}
-use Rattle.data_model.proofs.MapLemmas.{equal, tied_to_itself, get-put, get-combined, get-key_by_key, get-part}
+use Rattle.data_model.proofs.EntryLemmas.{find-later, is_sorted-rest, find-++, find-new_entries}
+use Rattle.data_model.proofs.MapLemmas.{tied_to_itself, get-put, get-combined, get-key_by_key, get-part}
 
 -- ---- changes at one key
 
@@ -151,36 +153,6 @@ put_all (e ∷ es) m = put e.0 e.1.1 (put_all es m)
 abbrev changes_of : {K X : Type 0} → List (K × Pair X) → List (Pair X)
 changes_of es = map (λ e. e.1) es
 
-both_first : (a b : Bool) → T (a && b) → T a
-both_first true b p = tt
-both_first false b p = absurd p
-
-both_second : (a b : Bool) → T (a && b) → T b
-both_second true b p = p
-both_second false b p = absurd p
-
-both : (a b : Bool) → T a → T b → T (a && b)
-both true b p q = q
-both false b p q = p
-
-less_unequal : (r : Ordering) → T (is_lt r) → is_eq r ≡ false
-less_unequal Less p = refl
-less_unequal Equal p = absurd p
-less_unequal Greater p = absurd p
-
-module _ {K X : Type 0} {R : K → K → Ordering} (o : IsTotalOrder R) where
-  find-below_all : (q : K) (es : List (K × X)) → T (below_all R q es) → find R q es ≡ None
-  find-below_all q [] h = refl
-  find-below_all q (e ∷ es) h = rw (less_unequal (R q e.0) (both_first _ _ h)) (find-below_all q es (both_second _ _ h))
-
-  below_all-tied : (q k : K) (es : List (K × X)) → R q k ≡ Equal → T (below_all R k es) → T (below_all R q es)
-  below_all-tied q k [] e h = tt
-  below_all-tied q k (f ∷ fs) e h = both _ _ (subst (λ r. T (is_lt r)) (sym (o.congr q k f.0 e)) (both_first _ _ h)) (below_all-tied q k fs e (both_second _ _ h))
-
-  -- the key of the first entry is in no later one
-  find-later : (q : K) (e : K × X) (es : List (K × X)) → T (is_sorted R (e ∷ es)) → eq_by_cmp R q e.0 ≡ true → find R q es ≡ None
-  find-later q e es s t = find-below_all q es (below_all-tied q e.0 es (equal (R q e.0) t) (both_first _ _ s))
-
 module _ {K X : Type 0} {R : K → K → Ordering} (o : IsTotalOrder R) where
   -- a map with a value at some key isn't empty
   pub len-some : (m : FinMap R X) (k : K) (x : X) → get m k ≡ Some x → 0 < len m
@@ -217,7 +189,7 @@ module _ {K X : Type 0} {R : K → K → Ordering} (o : IsTotalOrder R) where
       let old : get m e.0 ≡ e.1.0 = subst (λ (b : Bool). IfSome (cond b (Some e.1) (find R e.0 es)) (λ (c : Pair X). get m e.0 ≡ c.0)) (tied_to_itself o e.0) (h e.0) in
       let still : get (put_all es m) e.0 ≡ e.1.0 = get-put_all es m e.0 ∙ ap (λ (c : Option (Pair X)). after c (get m e.0)) once ∙ old in
       let one = len-put e.1.0 e.1.1 e.0 (put_all es m) still in
-      let rest = len-put_all es m (both_second (below_all R e.0 es) (is_sorted R es) s) later in
+      let rest = len-put_all es m (is_sorted-rest R e es s) later in
       rw (sum_by-cons (λ (c : Pair X). cond (is_loss c) 1 0) e.1 (changes_of es), sum_by-cons (λ (c : Pair X). cond (is_gain c) 1 0) e.1 (changes_of es)) (omega (arith, one, rest))
 
 module _ {K X : Type 0} {R : K → K → Ordering} (o : IsTotalOrder R) (exact : IsAntisymmetric R) where
@@ -230,3 +202,25 @@ module _ {K X : Type 0} {R : K → K → Ordering} (o : IsTotalOrder R) (exact :
 
   pub len-apply-count : (d : DeltaOf R X) (m : FinMap R X) (before : ℕ) → BeginsAt d m → len m ≡ before → len (apply d m) ≡ count_after before d
   len-apply-count d m before h e = let counts = len-apply d m h in omega arith
+
+-- ---- deltas by lists of entries
+
+after-parts : {X : Type 0} (c : Option (Pair X)) (x : Option X) → option_or (option_and_then (λ (p : Pair X). p.1) c) (cond (not (is_some c)) x None) ≡ after c x
+after-parts None x = refl
+after-parts (Some (a, None)) x = refl
+after-parts (Some (a, Some b)) x = refl
+
+module _ {K X : Type 0} {R : K → K → Ordering} (o : IsTotalOrder R) (exact : IsAntisymmetric R) where
+  -- the map of the entries after changes in order is the map after their delta
+  pub from_entries-entries_after : (cs : List (K × Pair X)) (es : List (K × X)) → T (is_sorted R cs) → from_entries {R = R} (entries_after R cs es) ≡ apply (from_entries {R = R} cs) (from_entries {R = R} es)
+  from_entries-entries_after cs es h =
+      let unnamed : List (K × X) = filter (λ (e : K × X). not (is_some (find R e.0 cs))) es in
+      same_map o exact _ _ (λ q.
+      get-from_entries o (entries_after R cs es) q
+      ∙ find-++ R (new_entries cs) unnamed q
+      ∙ ap (λ (t : Option X). option_or t (find R q unnamed)) (find-new_entries o q cs h)
+      ∙ ap (option_or (option_and_then (λ (p : Pair X). p.1) (find R q cs))) (find-where_key R (λ k. not (is_some (find R k cs))) q (λ x t. ap (λ k. not (is_some (find R k cs))) (sym (exact q x t))) es)
+      ∙ after-parts (find R q cs) (find R q es)
+      ∙ sym (get-apply o exact (from_entries {R = R} cs) (from_entries {R = R} es) q
+      ∙ ap (λ (c : Option (Pair X)). after c (get (from_entries {R = R} es) q)) (get-from_entries o cs q)
+      ∙ ap (after (find R q cs)) (get-from_entries o es q)))

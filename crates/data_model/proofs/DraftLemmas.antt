@@ -10,12 +10,12 @@ use Rattle.std.specs.Cmp.{IsTotalOrder}
 use Rattle.std.specs.FinMap.{FinMap, get, len, get-empty, get-insert, IsAntisymmetric}
 use Rattle.data_model.specs.Maps.{is_listed}
 use Rattle.data_model.specs.Deltas.{Pair, DeltaOf, LeadsAt, IsEqualityTest, Leads, apply, count_after}
-use Rattle.data_model.specs.Outcomes.{Answer, Made, Range, TooMany, Outcome, settled, IsLeastListed, IsResult, IsOutcome}
-use Rattle.data_model.specs.Answers.{IsRight}
+use Rattle.data_model.specs.Outcomes.{Answer, Made, Range, TooMany, Outcome, settled, IsLeastListed, made, range_at, too_many, IsResult, IsOutcome}
+use Rattle.data_model.specs.Answers.{IsRight, right_answer}
 use Rattle.data_model.specs.Drafts.{Draft, nothing, note_value, note_beyond, note_key, finished, IsDraft, IsSameElsewhere}
 use Rattle.data_model.specs.declared.TheConstants.{POINT_LIMIT}
 use Rattle.data_model.proofs.MapLemmas.{tied}
-use Rattle.data_model.proofs.DeltaLemmas.{contradicted, option_eq-decides, get-apply, LeadsAt-after, Leads-by_key, Leads-unique, len-apply-count}
+use Rattle.data_model.proofs.DeltaLemmas.{contradicted, option_eq-decides, get-apply, LeadsAt-after, Leads-by_key, Leads-unique, Leads-delta_between, len-apply-count}
 use Rattle.data_model.proofs.OutcomeLemmas.{IsLeastListed-fails, IsLeastListed-passes, IsLeast-listed, none_passes-listed, IsOutcome-unique}
 
 -- ---- one note more
@@ -79,15 +79,6 @@ module _ {K X : Type 0} {R : K → K → Ordering} (o : IsTotalOrder R) (exact :
 -- ---- the end
 
 module _ {K X : Type 0} {R : K → K → Ordering} (o : IsTotalOrder R) (exact : IsAntisymmetric R) where
-  abbrev range_at : K → Outcome R X
-  range_at k = Range k
-
-  abbrev made : FinMap R X → Outcome R X
-  made m = Made m
-
-  abbrev too_many : Outcome R X
-  too_many = TooMany
-
   -- the right answer by the number of points after the changes
   IsRight-counted : (beyond : K → Bool) (value : K → Option X) (x : FinMap R X) (p : Outcome R X) (d : DeltaOf R X) (points : ℕ) → Leads d x (apply d x) → points ≡ len (apply d x) → IsResult beyond value (apply d x) → IsOutcome beyond value p → IsRight p x (settled None points d)
   IsRight-counted beyond value x p d points l e h is = elim (cases_Bool (nat_le points POINT_LIMIT)) [
@@ -125,7 +116,13 @@ module _ {K X : Type 0} {R : K → K → Ordering} (o : IsTotalOrder R) (exact :
     pub IsRight-finished : (before : ℕ) (n : Draft R X) → len x ≡ before → IsDraft beyond es old new ks n → IsRight p x (finished before n)
     IsRight-finished before n count h = IsRight-settled before count n.changes n.beyond h.least h.changes
 
-  -- there is one right answer
+  -- there is a right answer
+  pub IsRight-right_answer : (same : X → X → Bool) → IsEqualityTest same → (p : Outcome R X) (x : FinMap R X) → IsRight p x (right_answer same p x)
+  IsRight-right_answer same t (Made y) x = Leads-delta_between o exact same t x y
+  IsRight-right_answer same t (Range k) x = refl
+  IsRight-right_answer same t TooMany x = tt
+
+  -- and no other
   pub IsRight-unique : (p : Outcome R X) (x : FinMap R X) (a b : Answer K (DeltaOf R X)) → IsRight p x a → IsRight p x b → a ≡ b
   IsRight-unique (Made y) x (Made d) (Made e) h g = ap Made (Leads-unique o exact d e x y h g)
   IsRight-unique (Range k) x (Range i) (Range j) h g = ap Range (h ∙ sym g)

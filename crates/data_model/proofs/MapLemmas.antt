@@ -1,5 +1,6 @@
 -- What a map has at a key.
-use Rattle.std.proofs.Common.{◌≡◌, List, [], ◌∷◌, ◌++◌, map, Option, Some, None, Bool, true, false, cond, sym, ◌∙◌, ap, refl, ◌||◌, option_and_then, option_map}
+use Rattle.std.proofs.lemmas.List.{length-map}
+use Rattle.std.proofs.Common.{◌+◌, ◌≤◌, suc, length, arith, ◌≡◌, List, [], ◌∷◌, ◌++◌, map, Option, Some, None, Bool, true, false, cond, sym, ◌∙◌, ap, refl, ◌||◌, option_and_then, option_map}
 use Rattle.std.specs.Prelude.{is_some}
 use Rattle.std.specs.Bool.{then_some}
 use Rattle.std.specs.Option.{option_or, option_zip}
@@ -8,7 +9,7 @@ use Rattle.std.specs.declared.cmp.Ordering.{Ordering}
 use Rattle.std.specs.declared.cmp.Ordering.TheVariants.{Less, Equal, Greater}
 use Rattle.std.specs.Ordering.{is_eq, eq_by_cmp}
 use Rattle.std.specs.Cmp.{IsTotalOrder, tied_itself}
-use Rattle.std.specs.FinMap.{FinMap, get, keys, empty, retain_keys, find, IsAntisymmetric, get-insert, get-remove, get-empty, get-from_entries, get-retain_keys, same_map, contains_key-keys}
+use Rattle.std.specs.FinMap.{entries, from_entries, insert, len, len-empty, len-entries, len-insert, FinMap, get, keys, empty, retain_keys, find, IsAntisymmetric, get-insert, get-remove, get-empty, get-from_entries, get-retain_keys, same_map, contains_key-keys}
 use Rattle.std.proofs.lemmas.List.Folds.{list_any-append}
 use Rattle.data_model.specs.Maps.{is_listed, put, made_at, key_by_key, filtered, combined, union, leftmost, union_all, matched}
 
@@ -37,6 +38,10 @@ module _ {K : Type 0} {R : K → K → Ordering} (o : IsTotalOrder R) where
 
   pub tied_to_itself : (k : K) → eq_by_cmp R k k ≡ true
   tied_to_itself k = ap is_eq (tied_itself o k)
+
+  -- the keys are listed that have a point
+  pub is_listed-keys : {X : Type 0} (m : FinMap R X) (q : K) → is_listed R (keys m) q ≡ is_some (get m q)
+  is_listed-keys m q = sym (contains_key-keys m q)
 
   -- a key that isn't listed has no point
   pub get-unlisted : {X : Type 0} (m : FinMap R X) (q : K) → is_listed R (keys m) q ≡ false → get m q ≡ None
@@ -112,3 +117,39 @@ module _ {K : Type 0} {R : K → K → Ordering} (o : IsTotalOrder R) (same : Is
   -- where f makes nothing of nothing, an operator on an empty map gives an empty one
   pub key_by_key-empty : {X Y : Type 0} (f : K → X → Option Y) → key_by_key f (empty {X = X} {R = R}) ≡ empty
   key_by_key-empty f = same_map o same _ _ (λ q. get-key_by_key f empty q ∙ ap (option_and_then (f q)) (get-empty R q) ∙ sym (get-empty R q))
+
+-- ---- empty maps, and how many points there are
+
+no_length : {A : Type 0} (xs : List A) → length xs ≡ 0 → xs ≡ []
+no_length [] e = refl
+no_length (x ∷ xs) e = absurd (omega arith)
+
+-- an empty map has no keys
+pub keys-empty : {K : Type 0} (R : K → K → Ordering) (X : Type 0) → keys (empty {X = X} {R = R}) ≡ []
+keys-empty R X = ap (map (λ e. e.0)) (no_length (entries (empty {X = X} {R = R})) (sym (len-entries (empty {X = X} {R = R})) ∙ len-empty R X))
+
+-- with no keys the map is empty
+pub made_at-nothing : {K X : Type 0} (R : K → K → Ordering) (f : K → Option X) → made_at {R = R} [] f ≡ empty
+unfolding made_at
+made_at-nothing R f = refl
+
+module _ {K X : Type 0} {R : K → K → Ordering} (o : IsTotalOrder R) where
+  len-insert-le : (m : FinMap R X) (k : K) (x : X) → len (insert m k x) ≤ len m + 1
+  len-insert-le m k x = rw (len-insert o m k x) (elim (is_some (get m k)) as (λ b. cond b (len m) (len m + 1) ≤ len m + 1) [ true ↦ omega arith | false ↦ omega arith ])
+
+  len-of_options : (ks : List K) (f : K → Option X) → len (from_entries {R = R} (filter_map (λ k. option_map (λ x. (k, x)) (f k)) ks)) ≤ length ks
+  len-of_options [] f = rw (len-empty R X) (omega arith)
+  len-of_options (k ∷ ks) f = let rest = len-of_options ks f in elim (f k) as (λ (v : Option X). len (from_entries {R = R} (cons_option (option_map (λ x. (k, x)) v) (filter_map (λ k. option_map (λ x. (k, x)) (f k)) ks))) ≤ suc (length ks)) [
+    | None ↦ omega (arith, rest)
+    | Some x ↦ let more = len-insert-le (from_entries {R = R} (filter_map (λ k. option_map (λ x. (k, x)) (f k)) ks)) k x in omega (arith, rest, more)
+  ]
+
+  -- there are no more points than keys
+  pub len-made_at : (ks : List K) (f : K → Option X) → len (made_at {R = R} ks f) ≤ length ks
+  unfolding made_at
+  len-made_at ks f = len-of_options ks f
+
+-- what is made of a map key by key has no more points
+pub len-key_by_key : {K X Y : Type 0} {R : K → K → Ordering} → IsTotalOrder R → (f : K → X → Option Y) (m : FinMap R X) → len (key_by_key f m) ≤ len m
+unfolding key_by_key
+len-key_by_key {X = X} {Y = Y} o f m = let few = len-made_at {X = Y} o (keys m) (λ k. option_and_then (f k) (get m k)) in let same = length-map (entries m) (λ (e : _ × X). e.0) in let all = len-entries m in omega (arith, few, same, all)

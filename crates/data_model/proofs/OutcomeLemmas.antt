@@ -6,10 +6,10 @@ use Rattle.std.specs.declared.cmp.Ordering.{Ordering}
 use Rattle.std.specs.declared.cmp.Ordering.TheVariants.{Less, Equal, Greater}
 use Rattle.std.specs.Ordering.{is_lt, eq_by_cmp, ordering_reverse}
 use Rattle.std.specs.Cmp.{IsTotalOrder, tied_itself}
-use Rattle.std.specs.FinMap.{FinMap, get, len, IsAntisymmetric, same_map}
+use Rattle.std.specs.FinMap.{empty, len-empty, FinMap, get, len, IsAntisymmetric, same_map}
 use Rattle.data_model.specs.Maps.{is_listed, made_at}
-use Rattle.data_model.specs.Outcomes.{Made, Range, TooMany, Outcome, settled, lesser, least, IsLeast, IsLeastListed, Covers, outcome, IsResult, IsOutcome}
-use Rattle.data_model.proofs.MapLemmas.{tied, get-made_at_all}
+use Rattle.data_model.specs.Outcomes.{Made, Range, TooMany, Outcome, settled, lesser, least, IsLeast, IsLeastListed, Covers, made, range_at, outcome, IsResult, IsOutcome}
+use Rattle.data_model.proofs.MapLemmas.{made_at-nothing, tied, get-made_at_all}
 use Rattle.data_model.proofs.DeltaLemmas.{contradicted}
 use Rattle.data_model.specs.declared.TheConstants.{POINT_LIMIT}
 
@@ -143,24 +143,21 @@ module _ {K X : Type 0} {R : K → K → Ordering} (o : IsTotalOrder R) (exact :
   IsResult-unique : (beyond : K → Bool) (value : K → Option X) (m n : FinMap R X) → IsResult beyond value m → IsResult beyond value n → m ≡ n
   IsResult-unique beyond value m n h g = same_map o exact m n (λ q. h.values q ∙ sym (g.values q))
 
-  abbrev range_at : K → Outcome R X
-  range_at k = Range k
-
   not_in_range : {A : Type 0} (beyond : K → Bool) (value : K → Option X) (m : FinMap R X) (k : K) → IsResult beyond value m → IsLeast R beyond k → A
   not_in_range beyond value m k h g = contradicted (beyond k) g.passes (h.in_range k)
 
-  too_many : {A : Type 0} (beyond : K → Bool) (value : K → Option X) (m n : FinMap R X) → IsResult beyond value m → IsResult beyond value n → len m ≤ POINT_LIMIT → POINT_LIMIT < len n → A
-  too_many beyond value m n h g few many = let e = ap len (IsResult-unique beyond value m n h g) in absurd (omega (arith, few, many))
+  few_and_many : {A : Type 0} (beyond : K → Bool) (value : K → Option X) (m n : FinMap R X) → IsResult beyond value m → IsResult beyond value n → len m ≤ POINT_LIMIT → POINT_LIMIT < len n → A
+  few_and_many beyond value m n h g few many = let e = ap len (IsResult-unique beyond value m n h g) in absurd (omega (arith, few, many))
 
   -- there is one outcome
   pub IsOutcome-unique : (beyond : K → Bool) (value : K → Option X) (p q : Outcome R X) → IsOutcome beyond value p → IsOutcome beyond value q → p ≡ q
   IsOutcome-unique beyond value (Made m) (Made n) h g = ap Made (IsResult-unique beyond value m n h.0 g.0)
   IsOutcome-unique beyond value (Made m) (Range j) h g = not_in_range beyond value m j h.0 g
-  IsOutcome-unique beyond value (Made m) TooMany h g = too_many beyond value m g.0 h.0 g.1 h.1 g.2
+  IsOutcome-unique beyond value (Made m) TooMany h g = few_and_many beyond value m g.0 h.0 g.1 h.1 g.2
   IsOutcome-unique beyond value (Range j) (Made n) h g = not_in_range beyond value n j g.0 h
   IsOutcome-unique beyond value (Range j) (Range k) h g = ap range_at (IsLeast-unique o exact beyond j k h g)
   IsOutcome-unique beyond value (Range j) TooMany h g = not_in_range beyond value g.0 j g.1 h
-  IsOutcome-unique beyond value TooMany (Made n) h g = too_many beyond value n h.0 g.0 h.1 g.1 h.2
+  IsOutcome-unique beyond value TooMany (Made n) h g = few_and_many beyond value n h.0 g.0 h.1 g.1 h.2
   IsOutcome-unique beyond value TooMany (Range k) h g = not_in_range beyond value h.0 k h.1 g
   IsOutcome-unique beyond value TooMany TooMany h g = refl
 
@@ -173,3 +170,8 @@ module _ {K X : Type 0} {R : K → K → Ordering} (o : IsTotalOrder R) (exact :
   -- what is the outcome in words is what `outcome` gives
   pub outcome-of : (evaluated : List K) (beyond : K → Bool) (keys : List K) (value : K → Option X) (p : Outcome R X) → Covers R evaluated beyond keys value → IsOutcome beyond value p → outcome evaluated beyond keys value ≡ p
   outcome-of evaluated beyond keys value p covers h = IsOutcome-unique beyond value _ p (outcome-is evaluated beyond keys value covers) h
+
+  -- an operator that is evaluated nowhere and has no keys has an empty result
+  pub outcome-nothing : (beyond : K → Bool) (value : K → Option X) → outcome {R = R} [] beyond [] value ≡ made empty
+  unfolding outcome
+  outcome-nothing beyond value = rw (made_at-nothing R value, len-empty R X) refl

@@ -49,6 +49,16 @@ module _ {K : Type 0} (R : K → K → Ordering) where
     pub points : (k : K) → is_listed R keys k ≡ false → value k ≡ None
 
 module _ {K X : Type 0} {R : K → K → Ordering} where
+  -- the three outcomes, of this order and these values
+  abbrev pub made : FinMap R X → Outcome R X
+  made m = Made m
+
+  abbrev pub range_at : K → Outcome R X
+  range_at k = Range k
+
+  abbrev pub too_many : Outcome R X
+  too_many = TooMany
+
   -- the outcome of an operator that is evaluated at some keys, out of range where `beyond` says so, and that has this value at the keys of its result
   unfoldable pub outcome : List K → (K → Bool) → List K → (K → Option X) → Outcome R X
   outcome evaluated beyond keys value =

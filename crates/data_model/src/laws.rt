@@ -1,10 +1,12 @@
 // Laws of the definitions, over keys of any order in which only equal keys tie.
-ghost use Rattle.std.specs.Prelude.{◌≡◌, ◌≢◌, ◌+◌, ℕ, List, Option, None, Bool, true, false, if◌then◌else◌, option_and_then};
+ghost use Rattle.std.specs.Prelude.{◌≡◌, ◌≢◌, ◌+◌, ℕ, List, [], ◌∷◌, ◌++◌, Option, None, Bool, true, false, if◌then◌else◌, option_and_then};
 ghost use Rattle.std.specs.Option.{option_or, option_zip};
 ghost use Rattle.std.specs.FinMap.{FinMap, IsAntisymmetric, empty, get, len, retain_keys};
 ghost use Rattle.data_model.specs.Maps.{is_listed, made_at, key_by_key, union, matched};
 ghost use Rattle.data_model.specs.Deltas.{DeltaOf, IsEqualityTest, after, BeginsAt, Leads, apply, built, composed, delta_between, gained, lost};
-ghost use Rattle.data_model.specs.Outcomes.{Outcome, Covers, IsOutcome, outcome};
+ghost use Rattle.data_model.specs.Outcomes.{Answer, Outcome, Covers, IsResult, IsOutcome, outcome};
+ghost use Rattle.data_model.specs.Answers.{IsRight, right_answer};
+ghost use Rattle.data_model.specs.Drafts.{Draft, IsDraft, IsSameElsewhere, finished, note_beyond, note_key, note_value, nothing};
 
 /// What maps that are made from others have at a key.
 pub fn values_at_a_key<K: Ord, X, Y>()
@@ -57,4 +59,24 @@ pub fn outcome_is_unique<K: Ord, X>()
     requires exact { IsAntisymmetric K.cmp }
     ensures computed { (evaluated : List K) (beyond : K → Bool) (keys : List K) (value : K → Option X) → Covers K.cmp evaluated beyond keys value → IsOutcome {R = K.cmp} beyond value (outcome evaluated beyond keys value) }
     ensures unique { (beyond : K → Bool) (value : K → Option X) (p q : Outcome K.cmp X) → IsOutcome beyond value p → IsOutcome beyond value q → p ≡ q }
+{}
+
+/// To each outcome, and each result before, there is one right answer of a delta rule.
+pub fn right_answer_is_unique<K: Ord, X>()
+    requires exact { IsAntisymmetric K.cmp }
+    ensures exists { (same : X → X → Bool) (p : Outcome K.cmp X) (x : FinMap K.cmp X) → IsEqualityTest same → IsRight p x (right_answer same p x) }
+    ensures unique { (p : Outcome K.cmp X) (x : FinMap K.cmp X) (a b : Answer K (DeltaOf K.cmp X)) → IsRight p x a → IsRight p x b → a ≡ b }
+{}
+
+/// A draft of notes ends in the right answer, where old and new are equal at what was not noted.
+/// One key can be noted for an evaluation and the result (`key`), or each by itself (`in_range`,
+/// `beyond`, `value`).
+pub fn finished_draft_is_right<K: Ord, X>()
+    requires exact { IsAntisymmetric K.cmp }
+    ensures nothing { (beyond : K → Bool) (old new : K → Option X) → IsDraft {R = K.cmp} beyond [] old new [] nothing }
+    ensures key { (same : X → X → Bool) (beyond : K → Bool) (old new : K → Option X) (es ks : List K) (k : K) (n : Draft K.cmp X) → IsEqualityTest same → IsDraft beyond es old new ks n → IsDraft beyond (es ++ k ∷ []) old new (ks ++ k ∷ []) (note_key same k (beyond k) (old k) (new k) n) }
+    ensures in_range { (beyond : K → Bool) (old new : K → Option X) (es ks : List K) (k : K) (n : Draft K.cmp X) → beyond k ≡ false → IsDraft beyond es old new ks n → IsDraft beyond (es ++ k ∷ []) old new ks n }
+    ensures beyond { (beyond : K → Bool) (old new : K → Option X) (es ks : List K) (k : K) (n : Draft K.cmp X) → beyond k ≡ true → IsDraft beyond es old new ks n → IsDraft beyond (es ++ k ∷ []) old new ks (note_beyond k n) }
+    ensures value { (same : X → X → Bool) (beyond : K → Bool) (old new : K → Option X) (es ks : List K) (k : K) (n : Draft K.cmp X) → IsEqualityTest same → IsDraft beyond es old new ks n → IsDraft beyond es old new (ks ++ k ∷ []) (note_value same k (old k) (new k) n) }
+    ensures finished { (old_beyond beyond : K → Bool) (old new : K → Option X) (es ks : List K) (x : FinMap K.cmp X) (p : Outcome K.cmp X) (n : Draft K.cmp X) → IsResult old_beyond old x → IsOutcome beyond new p → IsSameElsewhere K.cmp old_beyond beyond es old new ks → IsDraft beyond es old new ks n → IsRight p x (finished (len x) n) }
 {}

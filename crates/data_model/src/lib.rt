@@ -4,6 +4,7 @@
 //! `laws` has a public function for each law of them.
 #![tactic(auto)]
 
+pub mod examples;
 pub mod laws;
 pub mod steps;
 
