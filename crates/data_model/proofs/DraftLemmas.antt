@@ -16,7 +16,7 @@ use Rattle.data_model.specs.Drafts.{Draft, nothing, note_value, note_beyond, not
 use Rattle.data_model.specs.declared.TheConstants.{POINT_LIMIT}
 use Rattle.data_model.proofs.MapLemmas.{tied}
 use Rattle.data_model.proofs.DeltaLemmas.{contradicted, option_eq-decides, get-apply, LeadsAt-after, Leads-by_key, Leads-unique, Leads-delta_between, len-apply-count}
-use Rattle.data_model.proofs.OutcomeLemmas.{IsLeastListed-fails, IsLeastListed-passes, IsLeast-listed, none_passes-listed, IsOutcome-unique}
+use Rattle.data_model.proofs.OutcomeLemmas.{IsLeastListed-fails, IsLeastListed-passes, IsLeastListed-along, IsLeast-listed, none_passes-listed, IsOutcome-unique}
 
 -- ---- one note more
 
@@ -75,6 +75,19 @@ module _ {K X : Type 0} {R : K → K → Ordering} (o : IsTotalOrder R) (exact :
       | inl out ↦ rw out (IsDraft-beyond es ks (ks ++ k ∷ []) k n out h)
       | inr within ↦ rw within (IsDraft-value (es ++ k ∷ []) ks k n (IsDraft-in_range es ks k n within h))
     ]
+
+    -- the same with what was found: whether the evaluation is out of range, and if not the two values
+    pub IsDraft-found : (es ks : List K) (k : K) (out : Bool) (x y : Option X) (n : Draft R X) → out ≡ beyond k → (out ≡ false → (x ≡ old k) × (y ≡ new k)) → IsDraft beyond es old new ks n → IsDraft beyond (es ++ k ∷ []) old new (ks ++ k ∷ []) (note_key same k out x y n)
+    IsDraft-found es ks k true x y n out values h = IsDraft-beyond es ks (ks ++ k ∷ []) k n (sym out) h
+    IsDraft-found es ks k false x y n out values h = let v = values refl in rw (v.0, v.1) (IsDraft-value (es ++ k ∷ []) ks k n (IsDraft-in_range es ks k n (sym out) h))
+
+module _ {K X : Type 0} {R : K → K → Ordering} where
+  -- a draft depends on what is evaluated and valued at each key alone
+  pub IsDraft-along : (beyond beyond' : K → Bool) (old old' new new' : K → Option X) (es ks : List K) (n : Draft R X) → ((k : K) → beyond' k ≡ beyond k) → ((k : K) → old' k ≡ old k) → ((k : K) → new' k ≡ new k) → IsDraft beyond es old new ks n → IsDraft beyond' es old' new' ks n
+  IsDraft-along beyond beyond' old old' new new' es ks n e f g h = record {
+    least = IsLeastListed-along R beyond beyond' es n.beyond e h.least;
+    changes = λ none k. rw (f k, g k) (h.changes none k);
+  }
 
 -- ---- the end
 

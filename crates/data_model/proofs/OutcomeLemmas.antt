@@ -24,6 +24,10 @@ in_rest false c s t = t
 
 -- ---- the least key
 
+pub IsLeastListed-along : {K : Type 0} (R : K → K → Ordering) (p p' : K → Bool) (ks : List K) (r : Option K) → ((k : K) → p' k ≡ p k) → IsLeastListed R p ks r → IsLeastListed R p' ks r
+IsLeastListed-along R p p' ks None e h = λ j i. e j ∙ h j i
+IsLeastListed-along R p p' ks (Some k) e h = (e k ∙ h.0, λ j i t. h.1 j i (sym (e j) ∙ t))
+
 module _ {K : Type 0} {R : K → K → Ordering} (o : IsTotalOrder R) (exact : IsAntisymmetric R) where
   -- no key is below one that it ties with
   pub not_below_tied : (j k : K) → j ≡ k → R j k ≢ Less

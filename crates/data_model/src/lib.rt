@@ -10,3 +10,6 @@ pub mod steps;
 
 /// The most points that a data set may have.
 pub const POINT_LIMIT: u64 = 200_000;
+
+#[cfg(test)]
+mod tests;
