@@ -10,13 +10,13 @@ use Rattle.std.specs.Cmp.{IsTotalOrder}
 use Rattle.std.specs.FinMap.{FinMap, get, len, get-empty, get-insert, IsAntisymmetric}
 use Rattle.data_model.specs.Maps.{is_listed}
 use Rattle.data_model.specs.Deltas.{Pair, DeltaOf, LeadsAt, IsEqualityTest, Leads, apply, count_after}
-use Rattle.data_model.specs.Outcomes.{Answer, Made, Range, TooMany, Outcome, settled, IsLeastListed, made, range_at, too_many, IsResult, IsOutcome}
+use Rattle.data_model.specs.Outcomes.{Answer, Made, Range, TooMany, Outcome, settled, IsLeastListed, Covers, outcome, made, range_at, too_many, IsResult, IsOutcome}
 use Rattle.data_model.specs.Answers.{IsRight, right_answer}
 use Rattle.data_model.specs.Drafts.{Draft, nothing, note_value, note_beyond, note_key, finished, IsDraft, IsSameElsewhere}
 use Rattle.data_model.specs.declared.TheConstants.{POINT_LIMIT}
 use Rattle.data_model.proofs.MapLemmas.{tied}
 use Rattle.data_model.proofs.DeltaLemmas.{contradicted, option_eq-decides, get-apply, LeadsAt-after, Leads-by_key, Leads-unique, Leads-delta_between, len-apply-count}
-use Rattle.data_model.proofs.OutcomeLemmas.{IsLeastListed-fails, IsLeastListed-passes, IsLeastListed-along, IsLeast-listed, none_passes-listed, IsOutcome-unique}
+use Rattle.data_model.proofs.OutcomeLemmas.{IsLeastListed-fails, IsLeastListed-passes, IsLeastListed-along, IsLeast-listed, none_passes-listed, outcome-is, IsOutcome-unique}
 
 -- ---- one note more
 
@@ -128,6 +128,14 @@ module _ {K X : Type 0} {R : K → K → Ordering} (o : IsTotalOrder R) (exact :
     -- a draft that has all that changed ends in the right answer
     pub IsRight-finished : (before : ℕ) (n : Draft R X) → len x ≡ before → IsDraft beyond es old new ks n → IsRight p x (finished before n)
     IsRight-finished before n count h = IsRight-settled before count n.changes n.beyond h.least h.changes
+
+  -- an operator's rule: its draft ends in the right answer, where its outcome on the old operands is x
+  pub IsRight-outcome : (at_keys : List K) (old_beyond : K → Bool) (old_keys : List K) (old : K → Option X) (new_at_keys : List K) (beyond : K → Bool) (keys : List K) (new : K → Option X) (x : FinMap R X) (es ks : List K) (n : Draft R X)
+      → Covers R at_keys old_beyond old_keys old → Covers R new_at_keys beyond keys new → outcome at_keys old_beyond old_keys old ≡ made x
+      → IsSameElsewhere R old_beyond beyond es old new ks → IsDraft beyond es old new ks n → IsRight (outcome new_at_keys beyond keys new) x (finished (len x) n)
+  IsRight-outcome at_keys old_beyond old_keys old new_at_keys beyond keys new x es ks n covers new_covers was same h =
+      let result : IsOutcome old_beyond old (made x) = subst (λ (p : Outcome R X). IsOutcome old_beyond old p) was (outcome-is o exact at_keys old_beyond old_keys old covers) in
+      IsRight-finished old_beyond beyond old new x result.0 (outcome new_at_keys beyond keys new) (outcome-is o exact new_at_keys beyond keys new new_covers) es ks same (len x) n refl h
 
   -- there is a right answer
   pub IsRight-right_answer : (same : X → X → Bool) → IsEqualityTest same → (p : Outcome R X) (x : FinMap R X) → IsRight p x (right_answer same p x)
