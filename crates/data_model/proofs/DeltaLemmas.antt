@@ -12,10 +12,10 @@ use Rattle.data_model.specs.Entries.{new_entries, entries_after}
 use Rattle.std.specs.FinMap.{from_entries, get-from_entries, FinMap, get, len, empty, entries, retain_keys, find, is_sorted, IsAntisymmetric, get-empty, get-entries, entries_sorted, same_map, len-insert, len-remove, empty_of_len}
 use Rattle.std.proofs.lemmas.Bool.{cases_Bool, cases_lt}
 use Rattle.std.proofs.lemmas.List.Sums.{sum_by-cons}
-use Rattle.data_model.specs.Maps.{put}
+use Rattle.data_model.specs.Maps.{put, filtered, if_passes}
 use Rattle.data_model.specs.Deltas.{Pair, DeltaOf, after, LeadsAt, IsEqualityTest, change_between, composed_change, is_gain, is_loss, apply, BeginsAt, Differs, Leads, delta_between, built, composed, gained, lost, count_after}
 use Rattle.data_model.proofs.EntryLemmas.{find-later, is_sorted-rest, find-++, find-new_entries}
-use Rattle.data_model.proofs.MapLemmas.{tied_to_itself, get-put, get-combined, get-key_by_key, get-part}
+use Rattle.data_model.proofs.MapLemmas.{tied_to_itself, get-put, get-combined, get-key_by_key, get-filtered, get-part}
 
 -- ---- changes at one key
 
@@ -46,6 +46,10 @@ LeadsAt-unique (Some c) (Some e) x y h k = let a : c.0 ≡ e.0 = sym h.0 ∙ k.0
 LeadsAt-unchanged : {X : Type 0} (c : Option (Pair X)) (x y : Option X) → LeadsAt c x y → x ≡ y → c ≡ None
 LeadsAt-unchanged None x y h e = refl
 LeadsAt-unchanged (Some c) x y h e = absurd (h.2 (sym h.0 ∙ e ∙ h.1))
+
+same_passes : {X : Type 0} (p : X → Bool) (c : Option (Pair X)) (x y : Option X) → LeadsAt c x y → IfSome c (λ (e : Pair X). (if_passes p e.0 ≡ None) × (if_passes p e.1 ≡ None)) → if_passes p y ≡ if_passes p x
+same_passes p None x y h apart = ap (if_passes p) h
+same_passes p (Some c) x y h apart = ap (if_passes p) h.1 ∙ apart.1 ∙ sym (ap (if_passes p) h.0 ∙ apart.0)
 
 -- the test of values tests optional values too
 pub option_eq-decides : {X : Type 0} (same : X → X → Bool) → IsEqualityTest same → (x y : Option X) → Decides (option_eq same x y) (x ≡ y)
@@ -129,6 +133,10 @@ module _ {K X : Type 0} {R : K → K → Ordering} (o : IsTotalOrder R) (exact :
     | inl yes' ↦ rw yes' (Leads-unnamed d m n h q (apart q yes'))
     | inr no' ↦ rw no' refl
   ] ∙ sym (get-part o exact p m q))
+
+  -- also where the part goes by the values: no change has an old or a new value in it
+  pub same_filtered : (p : K → X → Bool) (d : DeltaOf R X) (m n : FinMap R X) → Leads d m n → ((k : K) → IfSome (get d k) (λ (c : Pair X). (if_passes (p k) c.0 ≡ None) × (if_passes (p k) c.1 ≡ None))) → filtered p n ≡ filtered p m
+  same_filtered p d m n h apart = same_map o exact _ _ (λ q. get-filtered o exact p n q ∙ same_passes (p q) (get d q) (get m q) (get n q) (LeadsAt-of_Leads d m n h q) (apart q) ∙ sym (get-filtered o exact p m q))
 
   module _ (same : X → X → Bool) (t : IsEqualityTest same) where
     -- between any two maps there is a right delta

@@ -11,7 +11,7 @@ use Rattle.std.specs.Ordering.{is_eq, eq_by_cmp}
 use Rattle.std.specs.Cmp.{IsTotalOrder, tied_itself}
 use Rattle.std.specs.FinMap.{entries, from_entries, insert, len, len-empty, len-entries, len-insert, FinMap, get, keys, empty, retain_keys, find, IsAntisymmetric, get-insert, get-remove, get-empty, get-from_entries, get-retain_keys, same_map, contains_key-keys}
 use Rattle.std.proofs.lemmas.List.Folds.{list_any-append}
-use Rattle.data_model.specs.Maps.{is_listed, put, made_at, key_by_key, filtered, combined, union, leftmost, union_all, matched}
+use Rattle.data_model.specs.Maps.{is_listed, if_passes, put, made_at, key_by_key, filtered, combined, union, leftmost, union_all, matched}
 
 pub equal : (r : Ordering) → is_eq r ≡ true → r ≡ Equal
 equal Less p = cc
@@ -88,7 +88,7 @@ module _ {K : Type 0} {R : K → K → Ordering} (o : IsTotalOrder R) (same : Is
   get-key_by_key f m q = get-made_at_all (keys m) (λ k. option_and_then (f k) (get m k)) (λ k h. ap (option_and_then (f k)) (get-unlisted o m k h)) q
 
   -- the value there, if it passes
-  pub get-filtered : {X : Type 0} (p : K → X → Bool) (m : FinMap R X) (q : K) → get (filtered p m) q ≡ option_and_then (λ x. then_some (p q x) x) (get m q)
+  pub get-filtered : {X : Type 0} (p : K → X → Bool) (m : FinMap R X) (q : K) → get (filtered p m) q ≡ if_passes (p q) (get m q)
   get-filtered p m q = get-key_by_key (λ k x. then_some (p k x) x) m q
 
   -- what f makes of the two values there

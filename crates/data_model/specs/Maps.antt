@@ -16,6 +16,10 @@ abbrev pub leftmost : {X : Type 0} → List (Option X) → Option X
 leftmost [] = None
 leftmost (x ∷ xs) = option_or x (leftmost xs)
 
+-- the value, if it passes
+abbrev pub if_passes : {X : Type 0} → (X → Bool) → Option X → Option X
+if_passes p x = option_and_then (λ y. then_some (p y) y) x
+
 module _ {K : Type 0} {R : K → K → Ordering} where
   -- m, but with this value, or with none, at the key
   abbrev pub put : {X : Type 0} → K → Option X → FinMap R X → FinMap R X

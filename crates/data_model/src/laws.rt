@@ -1,8 +1,8 @@
 // Laws of the definitions, over keys of any order in which only equal keys tie.
-ghost use Rattle.std.specs.Prelude.{◌≡◌, ◌+◌, List, [], ◌∷◌, ◌++◌, Option, None, Bool, true, false, if◌then◌else◌, option_and_then};
-ghost use Rattle.std.specs.Option.{option_or, option_zip};
+ghost use Rattle.std.specs.Prelude.{◌≡◌, ◌+◌, List, [], ◌∷◌, ◌++◌, Option, None, Bool, true, false, if◌then◌else◌, option_and_then, map};
+ghost use Rattle.std.specs.Option.{IfSome, option_or, option_zip};
 ghost use Rattle.std.specs.FinMap.{FinMap, IsAntisymmetric, empty, get, len, retain_keys};
-ghost use Rattle.data_model.specs.Maps.{is_listed, made_at, key_by_key, union, matched};
+ghost use Rattle.data_model.specs.Maps.{is_listed, if_passes, leftmost, made_at, key_by_key, filtered, union, union_all, matched};
 ghost use Rattle.data_model.specs.Deltas.{DeltaOf, IsEqualityTest, after, BeginsAt, Leads, apply, built, composed, delta_between, gained, lost};
 ghost use Rattle.data_model.specs.Outcomes.{Answer, Outcome, Covers, IsResult, IsOutcome, outcome};
 ghost use Rattle.data_model.specs.Answers.{IsRight, right_answer};
@@ -15,8 +15,12 @@ pub fn values_at_a_key<K: Ord, X, Y>()
         get (made_at {R = K.cmp} ks f) k ≡ (if is_listed K.cmp ks k then f k else None) }
     ensures key_by_key { (f : K → X → Option Y) (m : FinMap K.cmp X) (k : K) →
         get (key_by_key f m) k ≡ option_and_then (f k) (get m k) }
+    ensures filtered { (p : K → X → Bool) (m : FinMap K.cmp X) (k : K) →
+        get (filtered p m) k ≡ if_passes (p k) (get m k) }
     ensures leftmost { (m n : FinMap K.cmp X) (k : K) →
         get (union m n) k ≡ option_or (get m k) (get n k) }
+    ensures leftmost_of_all { (ms : List (FinMap K.cmp X)) (k : K) →
+        get (union_all ms) k ≡ leftmost (map (λ m. get m k) ms) }
     ensures both { (m : FinMap K.cmp X) (n : FinMap K.cmp Y) (k : K) →
         get (matched m n) k ≡ option_zip (get m k) (get n k) }
 {}
@@ -61,12 +65,15 @@ pub fn deltas_compose<K: Ord, X>()
         get (composed same d e) k ≡ None }
 {}
 
-/// The part of a map that no change touches is the same before and after.
+/// The part of a map that no change touches is the same before and after, whether the part goes by
+/// the keys or by the values too.
 pub fn untouched_part_stays<K: Ord, X>()
     requires exact { IsAntisymmetric K.cmp }
-    ensures { (in_part : K → Bool) (d : DeltaOf K.cmp X) (m n : FinMap K.cmp X) → Leads d m n →
-        ((k : K) → in_part k ≡ true → get d k ≡ None) →
-        retain_keys n in_part ≡ retain_keys m in_part }
+    ensures by_keys { (p : K → Bool) (d : DeltaOf K.cmp X) (m n : FinMap K.cmp X) → Leads d m n →
+        ((k : K) → p k ≡ true → get d k ≡ None) → retain_keys n p ≡ retain_keys m p }
+    ensures by_values { (p : K → X → Bool) (d : DeltaOf K.cmp X) (m n : FinMap K.cmp X) → Leads d m n →
+        ((k : K) → IfSome (get d k) (λ c. (if_passes (p k) c.0 ≡ None) × (if_passes (p k) c.1 ≡ None))) →
+        filtered p n ≡ filtered p m }
 {}
 
 /// `outcome` is the outcome in words, and there is no other.

@@ -4,8 +4,8 @@ ghost use Rattle.std.specs.Prelude.{◌≡◌, ◌+◌, ◌<◌, ℕ};
 use std::marker::Model;
 use std::sync::ledger::{Blank, Book, Ledger, Share};
 
-/// How many steps were taken: a step is one look into held points. The counter takes no bytes and
-/// no time, only `tick` changes it, and nothing reads it but contracts.
+/// How many steps were taken: a step is one descent into held points, or one point that is handed
+/// out. The counter takes no bytes and no time, only `tick` changes it, and only contracts read it.
 ///
 /// A caller that counts nothing passes `Blank::new(1)` to a function over `L: Ledger`, which makes
 /// its own counter of it.

@@ -1,4 +1,4 @@
-use Rattle.data_model.proofs.MapLemmas.{get-made_at, get-key_by_key, get-union, get-matched}
+use Rattle.data_model.proofs.MapLemmas.{get-made_at, get-key_by_key, get-filtered, get-union, get-union_all, get-matched}
 use Rattle.data_model.proofs.laws.values_at_a_key.Goals as goal
 
 pub returns-clause-made : goal.returns-clause-made
@@ -12,3 +12,9 @@ returns-clause-leftmost g c = get-union g.met.K.Ord.total c.requires.exact
 
 pub returns-clause-both : goal.returns-clause-both
 returns-clause-both g c = get-matched g.met.K.Ord.total c.requires.exact
+
+pub returns-clause-filtered : goal.returns-clause-filtered
+returns-clause-filtered g c = get-filtered g.met.K.Ord.total c.requires.exact
+
+pub returns-clause-leftmost_of_all : goal.returns-clause-leftmost_of_all
+returns-clause-leftmost_of_all g c = get-union_all g.met.K.Ord.total c.requires.exact
