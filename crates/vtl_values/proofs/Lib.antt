@@ -1,2 +1,9 @@
+pub mod CharsOfTexts
+pub mod Digits
+pub mod Fractions
+pub mod Numbers
+pub mod Shown
+pub mod Spelled
+pub mod StructureNames
 pub mod TextOrder
 pub mod Values

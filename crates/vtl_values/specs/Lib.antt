@@ -1,2 +1,5 @@
+pub mod Numerals
 pub mod Order
 pub mod Ranges
+pub mod Structures
+pub mod Texts

@@ -40,3 +40,13 @@ impl Model for Integer {
 
     ghost inverse = { λ z. record { value = z } };
 }
+
+impl Decimal {
+    /// The largest number, in millionths.
+    pub const MOST: u128 = 1_000_000_000_000_000_000_000;
+}
+
+impl Integer {
+    /// The largest integer.
+    pub const MOST: u64 = 1_000_000_000_000_000;
+}

@@ -59,3 +59,62 @@ impl Component {
         })
     }
 }
+
+/// The components of a data set in their order: identifiers, measures, attributes, viral attributes. Contracts see it
+/// as the list of them.
+#[derive(Debug, Drop)]
+pub struct Structure {
+    components: Items<Component>,
+}
+
+impl Model for Structure {
+    ghost use Rattle.std.specs.Prelude.{List};
+    ghost use Rattle.vtl_values.specs.declared.structure.Component.{Component};
+
+    ghost Value = { List Component };
+
+    ghost use Rattle.vtl_values.specs.Structures.{IsStructure};
+
+    ghost view = { λ s. s.components };
+
+    ghost invariant = { λ s. IsStructure s.components };
+}
+
+impl Structure {
+    ghost use Rattle.vtl_values.specs.Structures.{IsStructure};
+
+    pub fn of(components: Vec<Component>) -> Structure
+        requires { IsStructure components.items }
+        ensures { result ≡ components.items }
+    {
+        Structure {
+            components: Items::from_vec(components),
+        }
+    }
+
+    pub fn components(&self) -> &[Component]
+        ensures value { result.now ≡ self.now }
+        ensures structure { IsStructure self.now }
+    {
+        self.components.as_slice()
+    }
+
+    /// An equal structure, or want of memory.
+    pub fn copy(&self, alloc: Global) -> Result<Structure, AllocError>
+        ensures { IfOk result (λ structure. structure ≡ self.now) }
+    {
+        Ok(Structure {
+            components: copy_components(alloc, self.components.as_slice())?,
+        })
+    }
+}
+
+fn copy_components(alloc: Global, components: &[Component]) -> Result<Items<Component>, AllocError>
+    ensures { IfOk result (λ copies. copies ≡ components.now) }
+{
+    let mut copies = Vec::new(alloc);
+    for component in components {
+        copies.push(component.copy(alloc)?)?;
+    }
+    Ok(Items::from_vec(copies))
+}
