@@ -1,0 +1,142 @@
+// The sum of two data sets.
+ghost use Rattle.std.specs.Prelude.{◌≡◌, IfOk, option_map};
+ghost use Rattle.operator_meaning.specs.Outcomes.{outcome_of, IsSumPut};
+ghost use Rattle.operator_meaning.specs.Sums as meant;
+
+use data_model::POINT_LIMIT;
+use point_sets::{Key, Point, PointSet};
+use sqlite_items::Items;
+use std::alloc::{AllocError, Global};
+use std::sync::Arc;
+use vtl_decimals::add;
+use vtl_values::Value;
+
+/// What an operator gives: its data set, the least key at which an evaluation is out of range, or that there are more
+/// points than a result may have.
+#[derive(Drop)]
+pub enum SetOutcome {
+    Made(PointSet),
+    Range(Key),
+    TooMany,
+}
+
+// The sum of two values; none where it is out of range.
+fn plus(a: &Value, b: &Value) -> Option<Value>
+    ensures { result ≡ meant.plus a.now b.now }
+{
+    match (a, b) {
+        (Value::Number(a), Value::Number(b)) => match add(*a, *b) {
+            Ok(sum) => Some(Value::Number(sum)),
+            Err(_) => None,
+        },
+        _ => Some(Value::Null),
+    }
+}
+
+// Measure by measure; none where one is out of range.
+fn plus_all(alloc: Global, a: &[Value], b: &[Value]) -> Result<Option<Vec<Value>>, AllocError>
+    ensures { IfOk result (λ sums. option_map (λ v. v.items) sums ≡ meant.plus_all a.now b.now) }
+{
+    let mut sums = Vec::new(alloc);
+    for (x, y) in a.iter().zip(b) {
+        match plus(x, y) {
+            Some(sum) => sums.push(sum)?,
+            None => return Ok(None),
+        }
+    }
+    Ok(Some(sums))
+}
+
+// Puts the sum at a point's key into the set, where the other set has a point there; false where it is out of range.
+fn put_sum(
+    alloc: Global,
+    set: &mut PointSet,
+    point: &Point,
+    other: &PointSet,
+) -> Result<bool, AllocError>
+    ensures { IfOk result (IsSumPut set.old set.new point.now.key
+        (meant.sum_with other.now point.now.key point.now.rest)) }
+{
+    let Some(partner) = other.get(&point.key) else {
+        return Ok(true);
+    };
+    let Some(sums) = plus_all(alloc, point.rest.as_slice(), partner.rest.as_slice())? else {
+        return Ok(false);
+    };
+    let sum = Point {
+        key: point.key.copy(alloc)?,
+        rest: Items::from_vec(sums),
+    };
+    set.insert(Arc::new(alloc, sum)?)?;
+    Ok(true)
+}
+
+/// The sum of two data sets, from scratch: at each key of both, measure by measure.
+pub fn sum_sets(alloc: Global, a: &PointSet, b: &PointSet) -> Result<SetOutcome, AllocError>
+    ensures { IfOk result (λ outcome. meant.sum a.now b.now ≡ outcome_of outcome) }
+{
+    let mut set = PointSet::new(alloc);
+    for point in a.points() {
+        if !put_sum(alloc, &mut set, point, b)? {
+            return Ok(SetOutcome::Range(point.key.copy(alloc)?));
+        }
+    }
+    if set.count() > POINT_LIMIT {
+        return Ok(SetOutcome::TooMany);
+    }
+    Ok(SetOutcome::Made(set))
+}
+
+#[cfg(test)]
+mod tests {
+    use super::*;
+    use std::test::Fail;
+    use vtl_decimals::total;
+    use vtl_values::Word;
+
+    fn set_of(alloc: Global, points: &[(&str, Option<i128>)]) -> Result<PointSet, Fail> {
+        let mut set = PointSet::new(alloc);
+        for (name, number) in points {
+            let mut key = Vec::new(alloc);
+            key.push(Value::Text(Word::from_str(alloc, name)?))?;
+            let mut rest = Vec::new(alloc);
+            rest.push(match number {
+                Some(millionths) => Value::Number(total(*millionths)?),
+                None => Value::Null,
+            })?;
+            let point = Point {
+                key: Key::of(key),
+                rest: Items::from_vec(rest),
+            };
+            set.insert(Arc::new(alloc, point)?)?;
+        }
+        Ok(set)
+    }
+
+    #[test]
+    fn sums_where_both_have_a_point(rt: HostRuntime) -> Result<(), Fail> {
+        let alloc = rt.alloc();
+        let ten = Some(10_000_000);
+        let most = Some(1_000_000_000_000_000_000_000);
+        let one = Some(1);
+        let a = set_of(alloc, &[("w", None), ("x", ten), ("y", most)])?;
+        let b = set_of(alloc, &[("w", ten), ("x", one), ("z", one)])?;
+        let wanted = set_of(alloc, &[("w", None), ("x", Some(10_000_001))])?;
+        match sum_sets(alloc, &a, &b)? {
+            SetOutcome::Made(set) => {
+                assert_eq!(rt; set.count(), wanted.count());
+                for (found, point) in set.points().iter().zip(wanted.points()) {
+                    assert!(rt; found.key == point.key);
+                    assert!(rt; found.rest.as_slice() == point.rest.as_slice());
+                }
+            }
+            _ => assert!(rt; false, "a data set"),
+        }
+        let c = set_of(alloc, &[("y", one), ("w", one)])?;
+        match sum_sets(alloc, &a, &c)? {
+            SetOutcome::Range(key) => assert!(rt; a.nth(2).is_some_and(|point| point.key == key)),
+            _ => assert!(rt; false, "out of range"),
+        }
+        Ok(())
+    }
+}

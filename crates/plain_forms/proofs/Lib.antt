@@ -1,0 +1,5 @@
+pub mod Bytes
+pub mod Each
+pub mod Groups
+pub mod Keys
+pub mod Parts

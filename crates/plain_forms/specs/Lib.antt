@@ -1,0 +1,4 @@
+pub mod Feeds
+pub mod Forms
+pub mod Lines
+pub mod Rows

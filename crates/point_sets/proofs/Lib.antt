@@ -1,0 +1,6 @@
+pub mod Changes
+pub mod Edited
+pub mod Keys
+pub mod Ordered
+pub mod Passes
+pub mod Points

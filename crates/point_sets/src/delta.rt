@@ -1,0 +1,287 @@
+// Deltas of data sets.
+ghost use Rattle.std.specs.Prelude.{◌≡◌, ◌++◌, map, IfOk, OnOk, IfSome};
+ghost use Rattle.std.specs.Option.{option_copied, option_eq, option_map};
+ghost use Rattle.std.specs.List.{All};
+ghost use Rattle.std.specs.FinMap as finmap;
+ghost use Rattle.data_model.specs.Deltas.{Differs, Leads, composed};
+ghost use Rattle.vtl_values.specs.Order.{key_cmp};
+ghost use Rattle.point_sets.specs.DataSets.{DataSet};
+ghost use Rattle.point_sets.specs.Changes.{values_eq, values_of, change_entry, of_changes, entry_at, joined, IsChange, AreChanges, IsSamePoint};
+ghost use Rattle.point_sets.specs.Places.{below, above};
+
+use crate::key::Key;
+use crate::point::Point;
+use std::alloc::{AllocError, Global};
+use std::cmp::Ordering;
+use std::marker::Model;
+use std::sync::Arc;
+
+/// What a key had, and what it has. `None` stands where there is no point.
+#[derive(Debug, Drop)]
+pub struct Change {
+    pub key: Key,
+    pub old: Option<Arc<Point>>,
+    pub new: Option<Arc<Point>>,
+}
+
+/// The changes that lead from one data set to another, in the order of their keys. Contracts see it as the map from
+/// keys to the values before and after; they differ in each change, and each point has its change's key.
+#[derive(Debug, Drop)]
+pub struct Delta {
+    changes: Vec<Change>,
+}
+
+impl Model for Delta {
+    ghost use Rattle.point_sets.specs.Changes.{Changes, changes_coded, of_changes, AreChanges};
+
+    ghost Value = { Changes };
+
+    ghost coded = { changes_coded };
+
+    ghost view = { λ delta. of_changes delta.changes.items };
+
+    ghost invariant = { λ delta. AreChanges delta.changes.items };
+}
+
+impl Delta {
+    pub fn of(changes: Vec<Change>) -> Delta
+        requires { AreChanges changes.items }
+        ensures { result ≡ of_changes changes.items }
+    {
+        Delta { changes }
+    }
+
+    /// The changes, in the order of their keys.
+    pub fn changes(&self) -> &[Change]
+        ensures entries { map change_entry result.now ≡ finmap.entries self.now }
+        ensures changes { AreChanges result.now }
+        ensures differs { Differs self.now }
+    {
+        self.changes.as_slice()
+    }
+}
+
+/// One delta for two, of which the second begins where the first one ends. A key that comes back to its point isn't
+/// in it. Both lists are gone through once.
+pub fn compose(alloc: Global, first: &Delta, then: &Delta) -> Result<Delta, AllocError>
+    ensures composed { IfOk result (λ delta. delta ≡ composed values_eq first.now then.now) }
+    ensures leads { IfOk result (λ delta. (l m n : DataSet) → Leads first.now l m → Leads then.now m n → Leads delta l n) }
+{
+    Ok(Delta {
+        changes: composed_changes(alloc, first.changes(), then.changes())?,
+    })
+}
+
+fn composed_changes(
+    alloc: Global,
+    first: &[Change],
+    then: &[Change],
+) -> Result<Vec<Change>, AllocError>
+    requires first { AreChanges first.now }
+    requires then { AreChanges then.now }
+    ensures changes { IfOk result (λ changes. AreChanges changes.items) }
+    ensures composed { IfOk result (λ changes. of_changes changes.items ≡ composed values_eq (of_changes first.now) (of_changes then.now)) }
+{
+    let mut all = Vec::new(alloc);
+    let mut rest = then;
+    for change in first {
+        let (next, later) = push_below(alloc, &mut all, rest, &change.key)?;
+        push_composed(alloc, &mut all, change, next)?;
+        rest = later;
+    }
+    push_all(alloc, &mut all, rest)?;
+    Ok(all)
+}
+
+/// Adds the changes whose keys are below a key, and answers the one at the key, if there is one, and those above.
+fn push_below<'a>(
+    alloc: Global,
+    all: &mut Vec<Change>,
+    changes: &'a [Change],
+    key: &Key,
+) -> Result<(Option<&'a Change>, &'a [Change]), AllocError>
+    requires changes { AreChanges changes.now }
+    requires all { All IsChange all.old.items }
+    ensures pushed { OnOk result (map change_entry all.new.items ≡ map change_entry all.old.items ++ below key_cmp key.now (map change_entry changes.now)) }
+    ensures all { OnOk result (All IsChange all.new.items) }
+    ensures found { IfOk result (λ parts. option_map (λ c. (change_entry c).1) (option_copied parts.0) ≡ finmap.find key_cmp key.now (map change_entry changes.now)) }
+    ensures is_change { IfOk result (λ parts. IfSome (option_copied parts.0) (λ c. IsChange c × (c.key ≡ key.now))) }
+    ensures rest { IfOk result (λ parts. map change_entry parts.1.now ≡ above key_cmp key.now (map change_entry changes.now)) }
+    ensures are_changes { IfOk result (λ parts. AreChanges parts.1.now) }
+{
+    let mut rest = changes;
+    while let Some((change, later)) = rest.split_first() {
+        match change.key.cmp(key) {
+            Ordering::Less => all.push(copy_change(alloc, change)?)?,
+            Ordering::Equal => return Ok((Some(change), later)),
+            Ordering::Greater => return Ok((None, rest)),
+        }
+        rest = later;
+    }
+    Ok((None, rest))
+}
+
+/// Adds one change for the two, if they don't come back to the old point.
+fn push_composed(
+    alloc: Global,
+    all: &mut Vec<Change>,
+    change: &Change,
+    next: Option<&Change>,
+) -> Result<(), AllocError>
+    requires change { IsChange change.now }
+    requires next { IfSome (option_copied next) (λ c. IsChange c × (c.key ≡ change.now.key)) }
+    requires all { All IsChange all.old.items }
+    ensures pushed { OnOk result (map change_entry all.new.items ≡ map change_entry all.old.items ++ entry_at change.now.key (joined values_eq (change_entry change.now).1 (option_map (λ c. (change_entry c).1) (option_copied next.entry)))) }
+    ensures all { OnOk result (All IsChange all.new.items) }
+{
+    let Some(next) = next else {
+        all.push(copy_change(alloc, change)?)?;
+        return Ok(());
+    };
+    if !have_same_values(&change.old, &next.new) {
+        all.push(Change {
+            key: change.key.copy(alloc)?,
+            old: copy_point(&change.old)?,
+            new: copy_point(&next.new)?,
+        })?;
+    }
+    Ok(())
+}
+
+fn push_all(alloc: Global, all: &mut Vec<Change>, changes: &[Change]) -> Result<(), AllocError>
+    requires changes { All IsChange changes.now }
+    requires all { All IsChange all.old.items }
+    ensures pushed { OnOk result (map change_entry all.new.items ≡ map change_entry all.old.items ++ map change_entry changes.now) }
+    ensures all { OnOk result (All IsChange all.new.items) }
+{
+    for change in changes {
+        all.push(copy_change(alloc, change)?)?;
+    }
+    Ok(())
+}
+
+fn copy_change(alloc: Global, change: &Change) -> Result<Change, AllocError>
+    ensures key { IfOk result (λ copied. copied.key ≡ change.now.key) }
+    ensures old { IfOk result (λ copied. IsSamePoint change.now.old copied.old) }
+    ensures new { IfOk result (λ copied. IsSamePoint change.now.new copied.new) }
+{
+    Ok(Change {
+        key: change.key.copy(alloc)?,
+        old: copy_point(&change.old)?,
+        new: copy_point(&change.new)?,
+    })
+}
+
+fn copy_point(point: &Option<Arc<Point>>) -> Result<Option<Arc<Point>>, AllocError>
+    ensures { IfOk result (λ copied. IsSamePoint point.now copied) }
+{
+    match point {
+        None => Ok(None),
+        Some(point) => Ok(Some(point.clone()?)),
+    }
+}
+
+fn have_same_values(one: &Option<Arc<Point>>, other: &Option<Arc<Point>>) -> bool
+    ensures { result ≡ option_eq values_eq (values_of one.now) (values_of other.now) }
+{
+    match (one, other) {
+        (None, None) => true,
+        (Some(one), Some(other)) => one.rest.as_slice().cmp(&other.rest.as_slice()).is_eq(),
+        _ => false,
+    }
+}
+
+#[cfg(test)]
+mod tests {
+    use super::*;
+    use crate::point_set::PointSet;
+    use sqlite_items::Items;
+    use std::test::Fail;
+    use vtl_values::{Value, Word};
+
+    fn key(alloc: Global, area: &str) -> Result<Key, AllocError> {
+        let mut values = Vec::new(alloc);
+        values.push(Value::Text(Word::from_str(alloc, area)?))?;
+        Ok(Key::of(values))
+    }
+
+    fn point(alloc: Global, area: &str, truth: bool) -> Result<Arc<Point>, AllocError> {
+        let mut rest = Vec::new(alloc);
+        rest.push(Value::Truth(truth))?;
+        let rest = Items::from_vec(rest);
+        let key = key(alloc, area)?;
+        Ok(Arc::new(alloc, Point { key, rest })?)
+    }
+
+    fn one(alloc: Global, change: Change) -> Result<Delta, AllocError>
+        requires { IsChange change }
+    {
+        let mut changes = Vec::new(alloc);
+        changes.push(change)?;
+        Ok(Delta::of(changes))
+    }
+
+    fn put(alloc: Global, area: &str, truth: bool) -> Result<Delta, AllocError> {
+        let point = point(alloc, area, truth)?;
+        let key = point.key.copy(alloc)?;
+        let new = Some(point);
+        one(
+            alloc,
+            Change {
+                key,
+                old: None,
+                new,
+            },
+        )
+    }
+
+    fn removed(alloc: Global, area: &str, truth: bool) -> Result<Delta, AllocError> {
+        let point = point(alloc, area, truth)?;
+        let key = point.key.copy(alloc)?;
+        let old = Some(point);
+        one(
+            alloc,
+            Change {
+                key,
+                old,
+                new: None,
+            },
+        )
+    }
+
+    #[test]
+    fn deltas_are_composed_and_applied(rt: HostRuntime) -> Result<(), Fail> {
+        let alloc = rt.alloc();
+        let both = compose(alloc, &put(alloc, "IT", true)?, &put(alloc, "FR", false)?)?;
+        let other = compose(
+            alloc,
+            &removed(alloc, "IT", true)?,
+            &put(alloc, "IT", false)?,
+        )?;
+        let same = compose(
+            alloc,
+            &removed(alloc, "IT", true)?,
+            &put(alloc, "IT", true)?,
+        )?;
+        let all = compose(alloc, &both, &other)?;
+        let undone = compose(alloc, &all, &removed(alloc, "FR", false)?)?;
+        for (delta, changes, points) in [
+            (&both, 2, 2),
+            (&other, 1, 1),
+            (&same, 0, 0),
+            (&all, 2, 2),
+            (&undone, 1, 1),
+        ] {
+            let mut set = PointSet::new(alloc);
+            set.apply(delta)?;
+            assert_eq!(rt; (delta.changes().len(), set.count()), (changes, points));
+        }
+        let mut set = PointSet::new(alloc);
+        set.apply(&both)?;
+        set.apply(&other)?;
+        let wanted = point(alloc, "IT", false)?;
+        let last = set.nth(1).expect(&rt, "two points");
+        assert!(rt; last.key == wanted.key && last.rest.as_slice() == wanted.rest.as_slice());
+        Ok(())
+    }
+}

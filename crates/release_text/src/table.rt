@@ -1,0 +1,63 @@
+// Rows of values, and tables.
+ghost use Rattle.std.specs.Prelude.{◌≡◌, ℕ, List, [], ◌++◌, IfOk, OnOk, map};
+ghost use Rattle.std.specs.List.{flat_map};
+ghost use Rattle.std.specs.FinMap.{entries};
+ghost use Rattle.point_sets.specs.DataSets.{entry_of};
+ghost use Rattle.release_text.specs.Rows.{HasWritten};
+ghost use Rattle.release_text.specs.Tables.{header_row, point_row, table, values_row as row_of_values};
+
+use crate::row_writer::RowWriter;
+use point_sets::{Point, PointSet};
+use std::alloc::{AllocError, Global};
+use std::sync::Arc;
+use vtl_values::{Structure, Value};
+
+/// The values as a row, or want of memory.
+pub fn values_row(alloc: Global, values: &[Value]) -> Result<Vec<u8>, AllocError>
+    ensures { IfOk result (λ text. text.items ≡ row_of_values values.now) }
+{
+    let mut writer = RowWriter::new(alloc);
+    writer.push_values(alloc, values)?;
+    writer.end_row()?;
+    writer.into_text()
+}
+
+/// The table of a data set with these components, or want of memory.
+pub fn rows_text(
+    alloc: Global,
+    structure: &Structure,
+    set: &PointSet,
+) -> Result<Vec<u8>, AllocError>
+    ensures { IfOk result (λ text. text.items ≡ table structure.now set.now) }
+{
+    let mut writer = RowWriter::new(alloc);
+    write_header(&mut writer, structure)?;
+    write_points(alloc, &mut writer, set.points())?;
+    writer.into_text()
+}
+
+fn write_header(writer: &mut RowWriter, structure: &Structure) -> Result<(), AllocError>
+    ensures { (written : List ℕ) → HasWritten writer.old written []
+        → OnOk result (HasWritten writer.new (written ++ header_row structure.now) []) }
+{
+    for component in structure.components() {
+        writer.push(&component.name)?;
+    }
+    writer.end_row()
+}
+
+fn write_points(
+    alloc: Global,
+    writer: &mut RowWriter,
+    points: &[Arc<Point>],
+) -> Result<(), AllocError>
+    ensures { (written : List ℕ) → HasWritten writer.old written []
+        → OnOk result (HasWritten writer.new (written ++ flat_map point_row (map entry_of points.now)) []) }
+{
+    for point in points {
+        writer.push_values(alloc, point.key.values())?;
+        writer.push_values(alloc, point.rest.as_slice())?;
+        writer.end_row()?;
+    }
+    Ok(())
+}

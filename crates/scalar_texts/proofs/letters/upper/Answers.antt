@@ -1,0 +1,7 @@
+use Rattle.std.proofs.lemmas.Result.{IfOk-weaker}
+use Rattle.std.proofs.lemmas.Str.{IsUtf8-string_bytes}
+use Rattle.scalar_texts.proofs.Spelling.{chars-uppercase}
+use Rattle.scalar_texts.proofs.letters.upper.Goals as goal
+
+pub returns : goal.returns
+returns c = IfOk-weaker _ _ _ (λ t e. chars-uppercase _ _ c.utf8.s (IsUtf8-string_bytes t) e) c.to_ascii_uppercase.ensures.ok

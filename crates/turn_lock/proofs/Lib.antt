@@ -1,0 +1,11 @@
+pub mod Journals
+pub mod Numbers
+pub mod Owning
+pub mod Soles
+pub mod Looking
+pub mod Giving
+pub mod Splitting
+pub mod Joining
+pub mod Making
+pub mod Passes
+pub mod Asks

@@ -1,0 +1,4 @@
+pub mod Calls
+pub mod Pass
+pub mod Rule
+pub mod Steps

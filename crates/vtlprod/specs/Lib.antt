@@ -1,0 +1,9 @@
+pub mod Ends
+pub mod Eval
+pub mod Forms
+pub mod Lines
+pub mod Output
+pub mod Reading
+pub mod Stages
+pub mod Views
+pub mod Words

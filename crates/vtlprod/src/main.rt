@@ -1,0 +1,48 @@
+//! The program vtlprod: it makes the real shelf, sink and gate, and runs the top call on them.
+//!
+//! `call::run_vtlprod` works on any shelf, sink and gate, and its contract says what is written and with which status
+//! the program ends, for its words and the bytes of the files (specs/Output.antt). It stands on every other crate.
+#![tactic(auto)]
+
+pub mod call;
+pub mod eval;
+pub mod forms;
+pub mod reading;
+pub mod stop;
+pub mod words;
+
+use crate::call::run_vtlprod;
+use outside::{FolderShelf, OpenGate, StdoutSink};
+use std::process::ExitCode;
+use std::{env, io};
+use vtl_values::Word;
+
+// The words after the program's name.
+fn arguments(rt: &HostRuntime) -> io::Result<Vec<String>> {
+    let mut words = Vec::new(rt.alloc());
+    for word in env::args(rt)?.skip(1) {
+        words.push(word)?;
+    }
+    Ok(words)
+}
+
+fn main(rt: HostRuntime) -> ExitCode {
+    let Ok(words) = arguments(&rt) else {
+        return ExitCode::from(7);
+    };
+    let mut shelf = FolderShelf {
+        rt: &rt,
+        faults: 0,
+        last: Word::from(String::new(rt.alloc())),
+        kept: 0,
+    };
+    let mut out = StdoutSink {
+        inner: rt.stdout(),
+        faults: 0,
+    };
+    let outcome = run_vtlprod(&rt, &words, &mut shelf, &mut out, &OpenGate);
+    ExitCode::from(outcome.status)
+}
+
+#[cfg(test)]
+mod tests;
