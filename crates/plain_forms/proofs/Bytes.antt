@@ -12,11 +12,11 @@ use Rattle.vtl_values.specs.declared.kind.Kind.TheVariants.{Number as NumberKind
 use Rattle.vtl_values.specs.declared.read.BadText.{BadText}
 use Rattle.vtl_values.specs.Texts.{value_of}
 
-and-left : (a b : Bool) → (a && b) ≡ true → a ≡ true
+pub and-left : (a b : Bool) → (a && b) ≡ true → a ≡ true
 and-left true b h = refl
 and-left false b h = h
 
-and-right : (a b : Bool) → (a && b) ≡ true → b ≡ true
+pub and-right : (a b : Bool) → (a && b) ≡ true → b ≡ true
 and-right true b h = h
 and-right false b h = absurd (false≢true h)
 

@@ -3,3 +3,4 @@ pub mod Each
 pub mod Groups
 pub mod Keys
 pub mod Parts
+pub mod RowText

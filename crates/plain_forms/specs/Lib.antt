@@ -1,4 +1,5 @@
 pub mod Feeds
 pub mod Forms
 pub mod Lines
+pub mod RowLines
 pub mod Rows

@@ -25,7 +25,7 @@ pub struct Block {
 }
 
 /// The block of these lines, the first of which starts it.
-pub fn read_block(alloc: Global, lines: &[&[u8]]) -> Result<Block, PlainStop>
+pub(crate) fn read_block(alloc: Global, lines: &[&[u8]]) -> Result<Block, PlainStop>
     ensures block { IfOk result (λ block. block_of (shown lines.now) ≡ Some block) }
     ensures not_plain { result ≡ Err PlainStop.NotPlain → block_of (shown lines.now) ≡ None }
 {

@@ -7,12 +7,14 @@
 pub mod block;
 pub mod feed;
 pub mod forms;
+pub mod laws;
 pub mod row;
 pub mod stop;
 
 pub use block::{Block, Input};
 pub use feed::read_plain;
 pub use forms::{is_script, is_structures};
+pub use laws::row_lines;
 pub use row::Row;
 pub use stop::PlainStop;
 

@@ -21,7 +21,7 @@ pub struct Row {
 }
 
 /// The rows of the lines, each of which has to be a row.
-pub fn read_rows(alloc: Global, lines: &[&[u8]]) -> Result<Vec<Row>, PlainStop>
+pub(crate) fn read_rows(alloc: Global, lines: &[&[u8]]) -> Result<Vec<Row>, PlainStop>
     ensures rows { IfOk result (λ rows. all_of row_of (shown lines.now) ≡ Some rows.items) }
     ensures not_plain { result ≡ Err PlainStop.NotPlain → all_of row_of (shown lines.now) ≡ None }
 {
@@ -106,7 +106,7 @@ fn read_number(alloc: Global, number: &[u8]) -> Result<Decimal, PlainStop>
 }
 
 /// Whether no two rows have the same key.
-pub fn keys_differ(alloc: Global, rows: &[Row]) -> Result<bool, AllocError>
+pub(crate) fn keys_differ(alloc: Global, rows: &[Row]) -> Result<bool, AllocError>
     ensures { IfOk result (λ differ. differ ≡ all_differ (map (λ row. row.key) rows.now)) }
 {
     let mut keys = BTreeSet::new(alloc);
