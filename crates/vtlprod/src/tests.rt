@@ -43,10 +43,11 @@ fn sink(alloc: Global, fail_at: Vec<u64>) -> MemorySink {
     }
 }
 
-fn words(alloc: Global, texts: &[&str]) -> Result<Vec<String>, AllocError> {
+// The words between blanks.
+fn words(alloc: Global, line: &str) -> Result<Vec<String>, AllocError> {
     let mut words = Vec::new(alloc);
-    for text in texts {
-        words.push(String::from_str(alloc, text)?)?;
+    for word in line.split(' ') {
+        words.push(String::from_str(alloc, word)?)?;
     }
     Ok(words)
 }
@@ -81,7 +82,7 @@ fn writes_the_release_or_the_failed_line(rt: HostRuntime) -> Result<(), Fail> {
     ] {
         let mut shelf = shelf(alloc, &eval_files(script, feed), Vec::new(alloc))?;
         let mut out = sink(alloc, Vec::new(alloc));
-        let words = words(alloc, &["eval", "s", "t", "f"])?;
+        let words = words(alloc, "eval s t f")?;
         let outcome = run_vtlprod(&rt, &words, &mut shelf, &mut out, &OpenGate);
         assert_eq!(rt; outcome.status, status);
         assert_eq!(rt; out.taken.as_slice(), text.as_bytes());
@@ -96,21 +97,16 @@ fn each_failing_call_is_told(rt: HostRuntime) -> Result<(), Fail> {
     for (call, text) in [(0, "read s\n"), (1, "read t\n"), (2, "read f\n")] {
         let mut shelf = shelf(alloc, &files, vec![in alloc; call]?)?;
         let mut out = sink(alloc, Vec::new(alloc));
-        let words = words(alloc, &["eval", "s", "t", "f"])?;
+        let words = words(alloc, "eval s t f")?;
         let outcome = run_vtlprod(&rt, &words, &mut shelf, &mut out, &OpenGate);
         assert_eq!(rt; outcome.status, 2);
         assert_eq!(rt; out.taken.as_slice(), text.as_bytes());
     }
-    for (texts, shelf_fails, status) in [
-        (["eval", "s", "t", "f"].as_slice(), 9, 6),
-        (["eval", "s", "t", "f"].as_slice(), 1, 6),
-        (["eval", "s", "t"].as_slice(), 9, 6),
-    ] {
+    for (line, shelf_fails) in [("eval s t f", 9), ("eval s t f", 1), ("eval s t", 9)] {
         let mut shelf = shelf(alloc, &files, vec![in alloc; shelf_fails]?)?;
         let mut out = sink(alloc, vec![in alloc; 0]?);
-        let words = words(alloc, texts)?;
-        let outcome = run_vtlprod(&rt, &words, &mut shelf, &mut out, &OpenGate);
-        assert_eq!(rt; outcome.status, status);
+        let outcome = run_vtlprod(&rt, &words(alloc, line)?, &mut shelf, &mut out, &OpenGate);
+        assert_eq!(rt; outcome.status, 6);
         assert_eq!(rt; out.taken.len(), 0);
     }
     Ok(())
@@ -119,17 +115,18 @@ fn each_failing_call_is_told(rt: HostRuntime) -> Result<(), Fail> {
 #[test]
 fn other_words_are_not_built_and_read_nothing(rt: HostRuntime) -> Result<(), Fail> {
     let alloc = rt.alloc();
-    for texts in [
-        [].as_slice(),
-        ["eval", "s", "t"].as_slice(),
-        ["eval", "s", "t", "f", "f"].as_slice(),
-        ["check", "s", "t", "f"].as_slice(),
-        ["eval", "", "t", "f"].as_slice(),
-        ["eval", "s", "-t", "f"].as_slice(),
+    for line in [
+        "",
+        "eval",
+        "eval s t",
+        "eval s t f f",
+        "check s t f",
+        "eval  t f",
+        "eval s -t f",
     ] {
         let mut shelf = shelf(alloc, &eval_files(SCRIPT, FEED), Vec::new(alloc))?;
         let mut out = sink(alloc, Vec::new(alloc));
-        let outcome = run_vtlprod(&rt, &words(alloc, texts)?, &mut shelf, &mut out, &OpenGate);
+        let outcome = run_vtlprod(&rt, &words(alloc, line)?, &mut shelf, &mut out, &OpenGate);
         assert_eq!(rt; outcome.status, 4);
         assert_eq!(rt; out.taken.as_slice(), b"not built\n".as_slice());
         assert_eq!(rt; shelf.calls, 0);
