@@ -1,0 +1,11 @@
+use Rattle.std.proofs.Common.{◌≡◌, ◌≢◌, AllPairs, Ok, map, take}
+use Rattle.serde_json.specs.View.{view}
+use Rattle.structure_files.specs.Fields.{next_code}
+use Rattle.structure_files.specs.Refusals.{one_by_one}
+use Rattle.structure_files.proofs.fields.words_of.Given as goal
+
+abbrev pub invariant-loop-value : goal.invariant-loop-value
+invariant-loop-value l = record {
+  so_far : one_by_one (next_code l.path) (map view (take l.value-index l.values)) ≡ Ok l.words.items;
+  differ : AllPairs (λ a b. a ≢ b) l.words.items;
+}
