@@ -1,0 +1,194 @@
+-- What drafts have noted, and how they are finished.
+use Rattle.std.proofs.Common.{◌≡◌, ℕ, zero, suc, ◌+◌, ◌-◌, ◌<◌, ◌≤◌, List, [], ◌∷◌, ◌++◌, map, length, Option, Some, None, Result, Ok, Err, Bool, true, false, cond, T, sym, ◌∙◌, ap, refl, subst, arith, nat_le, ◌&&◌, not, append_assoc}
+use Rattle.std.specs.Prelude.{is_some, is_none, count_by}
+use Rattle.std.specs.Option.{option_eq}
+use Rattle.std.specs.Result.{OnErr}
+use Rattle.std.specs.List.{All, AllByRecursion}
+use Rattle.std.specs.List.Sorted.{IsStrictlySortedBy}
+use Rattle.std.specs.Map.{keys_of}
+use Rattle.std.specs.BTreeMap.{insert_entry}
+use Rattle.std.proofs.lemmas.Bool.Decides.{nat_tests}
+use Rattle.std.proofs.lemmas.List.{map-append}
+use Rattle.std.proofs.lemmas.List.Elements.{All-cons}
+use Rattle.std.proofs.lemmas.List.Sums.{sum_by-cons}
+use Rattle.std.specs.declared.cmp.Ordering.{Ordering}
+use Rattle.std.specs.declared.cmp.Ordering.TheVariants.{Less, Equal, Greater}
+use Rattle.std.specs.Ordering.{is_lt, match_ordering}
+use Rattle.std.specs.FinMap.{IsAntisymmetric, entries, from_entries, insert, is_sorted}
+use Rattle.std.specs.FinMap.Entries.{put, below_all, by_order}
+use Rattle.vtl_values.specs.declared.value.Value.{Value}
+use Rattle.vtl_values.specs.Order.{key_cmp}
+use Rattle.vtl_values.proofs.Values.{key_cmp-IsTotalOrder, key_cmp-IsAntisymmetric}
+use Rattle.data_model.specs.Deltas.{Pair, is_gain, is_loss, gained, lost, count_after}
+use Rattle.data_model.specs.Outcomes.{Answer, Made, Range, TooMany, settled, lesser}
+use Rattle.data_model.specs.Drafts.{finished}
+use Rattle.data_model.specs.declared.TheConstants.{POINT_LIMIT}
+use Rattle.data_model.proofs.EntryLemmas.{from_entries-put}
+use Rattle.point_sets.specs.declared.delta.Change.{Change}
+use Rattle.point_sets.specs.DataSets.{HasKey}
+use Rattle.point_sets.specs.Changes.{Changes, change_entry, of_changes, values_eq, values_of, IsChange, AreChanges}
+use Rattle.point_sets.proofs.Changes.{entries-of_changes, All-parts, values_eq-IsEqualityTest}
+use Rattle.point_sets.proofs.Ordered.{both}
+use Rattle.data_model.proofs.DeltaLemmas.{contradicted, option_eq-decides}
+use Rattle.held_index.specs.declared.draft.Noted.{Noted}
+use Rattle.held_index.specs.Drafts.{SetDraft, change_of, noted_entry, of_noted, AreNoted}
+
+-- ---- entries of trees, with their values seen otherwise
+
+module _ {K X Y : Type 0} (R : K → K → Ordering) (g : X → Y) where
+  map-insert_entry : (k : K) (v : X) (es : List (K × X)) → map (λ e. (e.0, g e.1)) (insert_entry R es k v) ≡ put R k (g v) (map (λ e. (e.0, g e.1)) es)
+  map-insert_entry k v [] = refl
+  map-insert_entry k v (e ∷ es) = elim (R k e.0) as (λ r. map (λ (d : K × X). (d.0, g d.1)) (match_ordering r ((k, v) ∷ e ∷ es) ((e.0, v) ∷ es) (e ∷ insert_entry R es k v)) ≡ by_order r ((k, g v) ∷ (e.0, g e.1) ∷ map (λ d. (d.0, g d.1)) es) ((e.0, g v) ∷ map (λ d. (d.0, g d.1)) es) ((e.0, g e.1) ∷ put R k (g v) (map (λ d. (d.0, g d.1)) es))) [
+    | Less ↦ refl
+    | Equal ↦ refl
+    | Greater ↦ ap (λ (t : List (K × Y)). (e.0, g e.1) ∷ t) (map-insert_entry k v es)
+  ]
+
+  below_all-each : (k : K) (es : List (K × X)) → AllByRecursion (λ j. R k j ≡ Less) (keys_of es) → T (below_all R k (map (λ e. (e.0, g e.1)) es))
+  below_all-each k [] h = tt
+  below_all-each k (e ∷ es) h = both _ _ (subst (λ r. T (is_lt r)) (sym h.0) tt) (below_all-each k es h.1)
+
+  -- keys in strict order make a list in order
+  is_sorted-keys : (es : List (K × X)) → IsStrictlySortedBy R (keys_of es) → T (is_sorted R (map (λ e. (e.0, g e.1)) es))
+  unfolding IsStrictlySortedBy
+  is_sorted-keys [] h = tt
+  is_sorted-keys (e ∷ es) h = both _ _ (below_all-each e.0 es h.0) (is_sorted-keys es h.1)
+
+All-insert_entry : {K X : Type 0} {R : K → K → Ordering} → IsAntisymmetric R → (P : K × X → Type 0) (k : K) (v : X) (es : List (K × X)) → P (k, v) → All P es → All P (insert_entry R es k v)
+All-insert_entry exact P k v [] p h = All-cons P (k, v) [] p h
+All-insert_entry {R = R} exact P k v (e ∷ es) p h =
+    let parts = All-parts P (e ∷ es) e es refl h in
+    elim (R k e.0) as (λ r. R k e.0 ≡ r → All P (match_ordering r ((k, v) ∷ e ∷ es) ((e.0, v) ∷ es) (e ∷ insert_entry R es k v))) [
+      | Less ↦ λ q. All-cons P (k, v) (e ∷ es) p h
+      | Equal ↦ λ q. All-cons P (e.0, v) es (subst (λ t. P (t, v)) (exact k e.0 q) p) parts.1
+      | Greater ↦ λ q. All-cons P e (insert_entry R es k v) parts.0 (All-insert_entry exact P k v es p parts.1)
+    ] refl
+
+-- the values before and after
+abbrev pair_of : Noted → Pair (List Value)
+pair_of n = (values_of n.old, values_of n.new)
+
+-- ---- one note more
+
+module _ (es : List (List Value × Noted)) (k : List Value) (n : Noted) where
+  pub AreNoted-more : HasKey k n.old → HasKey k n.new → option_eq values_eq (values_of n.old) (values_of n.new) ≡ false → AreNoted es → AreNoted (insert_entry key_cmp es k n)
+  AreNoted-more old new apart h = All-insert_entry key_cmp-IsAntisymmetric (λ e. IsChange (change_of e)) k n es record { old = old; new = new; differs = λ e. contradicted _ ((option_eq-decides values_eq values_eq-IsEqualityTest (values_of n.old) (values_of n.new)).1 e) apart } h
+
+  pub of_noted-more : of_noted (insert_entry key_cmp es k n) ≡ insert (of_noted es) k (values_of n.old, values_of n.new)
+  of_noted-more = ap (λ (fs : List (List Value × Pair (List Value))). let m : Changes = from_entries fs in m) (map-insert_entry key_cmp pair_of k n es) ∙ from_entries-put key_cmp-IsTotalOrder key_cmp-IsAntisymmetric k (pair_of n) (map noted_entry es)
+
+pub always_on_err : {T E P : Type 0} (r : Result T E) → P → OnErr r P
+always_on_err (Ok x) p = tt
+always_on_err (Err e) p = p
+
+abbrev pub draft_of : Changes → Option (List Value) → SetDraft
+draft_of d b = record { changes = d; beyond = b }
+
+-- a draft by its parts
+pub same_draft : (d e : Changes) (b c : Option (List Value)) → d ≡ e → b ≡ c → draft_of d b ≡ draft_of e c
+same_draft d e b c p q = λ i. draft_of (p i) (q i)
+
+-- the least of a key and one that may be there, by a test
+pub lesser-tested : (k j : List Value) (b : Option (List Value)) (t : Bool) → b ≡ Some j → t ≡ is_lt (key_cmp j k) → Some (lesser key_cmp k b) ≡ cond (not t) (Some k) b
+lesser-tested k j b t e h = rw (e, h) (elim (is_lt (key_cmp j k)) as (λ s. Some (cond s j k) ≡ cond (not s) (Some k) (Some j)) [ true ↦ refl | false ↦ refl ])
+
+-- ---- the end
+
+pub none_left : (n : ℕ) → (0 < n → false ≡ true) → n ≡ 0
+none_left zero f = refl
+none_left (suc n) f = let bad : false ≡ true = f (omega arith) in cc
+
+append-nothing : {A : Type 0} (xs : List A) → xs ++ [] ≡ xs
+append-nothing [] = refl
+append-nothing {A} (x ∷ xs) = ap (λ (t : List A). x ∷ t) (append-nothing xs)
+
+-- one more change is taken out of what was noted
+pub taken-more : (cs : List Change) (c : Change) (e : List Value × Noted) (es rest all : List (List Value × Noted)) → es ≡ e ∷ rest → change_of e ≡ c → map change_entry cs ++ map noted_entry es ≡ map noted_entry all → map change_entry (cs ++ c ∷ []) ++ map noted_entry rest ≡ map noted_entry all
+taken-more cs c e es rest all is same h =
+    ap (λ (t : List (List Value × Pair (List Value))). t ++ map noted_entry rest) (map-append change_entry cs (c ∷ []) ∙ ap (λ (d : Change). map change_entry cs ++ change_entry d ∷ []) (sym same))
+    ∙ append_assoc (map change_entry cs) (noted_entry e ∷ []) (map noted_entry rest)
+    ∙ ap (λ (t : List (List Value × Noted)). map change_entry cs ++ map noted_entry t) (sym is)
+    ∙ h
+
+-- and at the end all are taken out
+pub taken-all : (cs : List Change) (es all : List (List Value × Noted)) → length es ≡ 0 → map change_entry cs ++ map noted_entry es ≡ map noted_entry all → map change_entry cs ≡ map noted_entry all
+taken-all cs [] all l h = sym (append-nothing (map change_entry cs)) ∙ h
+taken-all cs (e ∷ es) all l h = absurd (omega arith)
+
+pub is_sorted-noted : (es : List (List Value × Noted)) → IsStrictlySortedBy key_cmp (keys_of es) → T (is_sorted key_cmp (map noted_entry es))
+is_sorted-noted es h = is_sorted-keys key_cmp pair_of es h
+
+pub are_changes-taken : (cs : List Change) (all : List (List Value × Noted)) → map change_entry cs ≡ map noted_entry all → IsStrictlySortedBy key_cmp (keys_of all) → All IsChange cs → AreChanges cs
+are_changes-taken cs all e s each = record { ascend = subst (λ (es : List (List Value × Pair (List Value))). T (is_sorted key_cmp es)) (sym e) (is_sorted-noted all s); each = each }
+
+-- what is taken out is the delta of what was noted
+pub of_changes-taken : (cs : List Change) (all : List (List Value × Noted)) → map change_entry cs ≡ map noted_entry all → of_changes cs ≡ of_noted all
+of_changes-taken cs all e = ap (λ (es : List (List Value × Pair (List Value))). let m : Changes = from_entries es in m) e
+
+gains_there : (c : Change) → is_gain (change_entry c).1 ≡ (is_none c.old && is_some c.new)
+gains_there c = elim c.old as (λ o. (is_none (values_of o) && is_some (values_of c.new)) ≡ (is_none o && is_some c.new)) [
+  | None ↦ elim c.new as (λ o. is_some (values_of o) ≡ is_some o) [ None ↦ refl | Some p ↦ refl ]
+  | Some p ↦ refl
+]
+
+losses_there : (c : Change) → is_loss (change_entry c).1 ≡ (is_some c.old && is_none c.new)
+losses_there c = elim c.old as (λ o. (is_some (values_of o) && is_none (values_of c.new)) ≡ (is_some o && is_none c.new)) [
+  | None ↦ refl
+  | Some p ↦ elim c.new as (λ o. is_none (values_of o) ≡ is_none o) [ None ↦ refl | Some q ↦ refl ]
+]
+
+count-seen : {A B : Type 0} (f : A → B) (p : B → Bool) (q : A → Bool) → ((x : A) → p (f x) ≡ q x) → (xs : List A) → count_by p (map f xs) ≡ count_by q xs
+count-seen f p q same [] = refl
+count-seen {A} {B} f p q same (x ∷ xs) =
+    sum_by-cons (λ (y : B). cond (p y) 1 0) (f x) (map f xs)
+    ∙ (λ i. cond (same x i) 1 0 + count-seen f p q same xs i)
+    ∙ sym (sum_by-cons (λ (y : A). cond (q y) 1 0) x xs)
+
+map-map : {A B C : Type 0} (g : B → C) (f : A → B) (xs : List A) → map g (map f xs) ≡ map (λ x. g (f x)) xs
+map-map g f [] = refl
+map-map {C = C} g f (x ∷ xs) = ap (λ (t : List C). g (f x) ∷ t) (map-map g f xs)
+
+module _ (cs : List Change) (h : AreChanges cs) where
+  changed_values : map (λ e. e.1) (entries (of_changes cs)) ≡ map (λ c. (change_entry c).1) cs
+  changed_values = ap (map (λ (e : List Value × Pair (List Value)). e.1)) (entries-of_changes cs h) ∙ map-map (λ (e : List Value × Pair (List Value)). e.1) change_entry cs
+
+  gained-of_changes : gained (of_changes cs) ≡ count_by (λ c. is_none c.old && is_some c.new) cs
+  gained-of_changes = ap (count_by is_gain) changed_values ∙ count-seen (λ c. (change_entry c).1) is_gain (λ c. is_none c.old && is_some c.new) gains_there cs
+
+  lost-of_changes : lost (of_changes cs) ≡ count_by (λ c. is_some c.old && is_none c.new) cs
+  lost-of_changes = ap (count_by is_loss) changed_values ∙ count-seen (λ c. (change_entry c).1) is_loss (λ c. is_some c.old && is_none c.new) losses_there cs
+
+-- the three answers, of data sets
+abbrev pub made_of : Changes → Answer (List Value) Changes
+made_of d = Made d
+
+abbrev pub range_of : List Value → Answer (List Value) Changes
+range_of k = Range k
+
+abbrev pub too_many : Answer (List Value) Changes
+too_many = TooMany
+
+-- the changes are the answer, unless too many points are left
+module _ (cs : List Change) (d : Changes) (before g l : ℕ) (h : AreChanges cs) (is : of_changes cs ≡ d) (gains : g ≡ count_by (λ c. is_none c.old && is_some c.new) cs) (losses : l ≡ count_by (λ c. is_some c.old && is_none c.new) cs) where
+  counted : count_after before d ≡ (before + g) - l
+  counted =
+      let more : gained d ≡ g = ap gained (sym is) ∙ gained-of_changes cs h ∙ sym gains in
+      let fewer : lost d ≡ l = ap lost (sym is) ∙ lost-of_changes cs h ∙ sym losses in
+      λ i. (before + more i) - fewer i
+
+  pub settled-made : before + g ≤ POINT_LIMIT + l → made_of (of_changes cs) ≡ settled None (count_after before d) d
+  settled-made few = let test : nat_le (count_after before d) POINT_LIMIT ≡ true = rw counted (grind (arith, nat_tests, few)) in
+      ap made_of is ∙ sym (ap (λ b. cond b (made_of d) too_many) test)
+
+  pub settled-too_many : POINT_LIMIT + l < before + g → too_many ≡ settled None (count_after before d) d
+  settled-too_many many = let test : nat_le (count_after before d) POINT_LIMIT ≡ false = rw counted (grind (arith, nat_tests, many)) in
+      sym (ap (λ b. cond b (made_of d) too_many) test)
+
+module _ (d : Changes) (b : Option (List Value)) (n : SetDraft) (before : ℕ) (is : draft_of d b ≡ n) where
+  -- an evaluation was out of range
+  pub finished-range : (k : List Value) → b ≡ Some k → range_of k ≡ finished before n
+  finished-range k e = ap (λ (a : Option (List Value)). settled a (count_after before d) d) (sym e) ∙ ap (finished before) is
+
+  -- none was
+  pub finished-settled : b ≡ None → settled None (count_after before d) d ≡ finished before n
+  finished-settled e = ap (λ (a : Option (List Value)). settled a (count_after before d) d) (sym e) ∙ ap (finished before) is

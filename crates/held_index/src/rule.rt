@@ -1,0 +1,62 @@
+// The trait of delta rules.
+ghost use Rattle.std.specs.Prelude.{◌≡◌, ◌≤◌, ℕ, List, map, length};
+ghost use Rattle.std.specs.Arc.{arc_value};
+ghost use Rattle.vtl_values.specs.declared.structure.Component.{Component};
+ghost use Rattle.point_sets.specs.DataSets.{DataSet};
+ghost use Rattle.held_index.specs.Rules.{SetOutcome, IsRightAnswer};
+ghost use Rattle.held_index.specs.declared.want.Want.{Want as WantedOperand};
+ghost use denote.Param.Send.{IsSync};
+
+use crate::held::Held;
+use crate::stop::Stop;
+use crate::want::Want;
+use data_model::POINT_LIMIT;
+use data_model::steps::Steps;
+use point_sets::Delta;
+use std::alloc::Global;
+use std::sync::Arc;
+use std::sync::ledger::Ledger;
+use std::thread::Threads;
+use vtl_values::Structure;
+
+/// An operator that makes the change of its result from the changes of its operands and what it holds of them.
+pub trait DeltaRule {
+    /// How many operands it has.
+    ghost arity: { Self → ℕ };
+
+    /// Which operands it is for: data sets of the structures that its operands have.
+    ghost admits: { Self → List DataSet → Type 0 };
+
+    /// What it gives on its operands.
+    ghost meaning: { Self → List DataSet → SetOutcome };
+
+    /// What it wants held.
+    ghost wanted: { Self → List WantedOperand };
+
+    /// The structure of its result.
+    ghost structure: { Self → List Component };
+
+    fn wants(&self) -> &[Want]
+        ensures { result.now ≡ wanted self.now };
+
+    fn result(&self) -> &Structure
+        ensures { result.now ≡ structure self.now };
+
+    /// The delta of the result, where it had so many points before. `held` are in the order of the wants, and `news`
+    /// in that of the operands. The rule may want memory, whatever the right answer is.
+    fn delta<R: Threads + Sync, L: Ledger>(
+        &self,
+        rt: &R,
+        alloc: Global,
+        before: u64,
+        held: &[Held],
+        news: &[Arc<Delta>],
+        steps: &mut Steps<L>,
+    ) -> Result<Delta, Stop>
+        requires sync { IsSync R.row }
+        requires held { length held.now ≡ length (wanted self.now) }
+        requires news { length news.now ≡ arity self.now }
+        requires few { before ≤ POINT_LIMIT }
+        ensures { IsRightAnswer (admits self.now) (meaning self.now) (wanted self.now) held.now
+            (map arc_value news.now) before result };
+}
