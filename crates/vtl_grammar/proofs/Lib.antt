@@ -1,0 +1,17 @@
+pub mod MarkCodes
+pub mod Sorts
+pub mod Explained
+pub mod Spellings
+pub mod RuleLaws
+pub mod EveryRule
+pub mod Tables
+pub mod PartLaws
+pub mod Complete
+pub mod CompleteRules
+pub mod TablesTell
+pub mod CompleteParts
+pub mod Agreement
+pub mod ScriptLaws
+pub mod GrammarLaws
+pub mod RenameLaw
+pub mod FaultLaw

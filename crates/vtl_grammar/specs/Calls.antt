@@ -1,0 +1,306 @@
+-- Calls: what stands behind a word, and the tree that is read.
+use Rattle.std.specs.Prelude.{ℕ, Option, Some, None, ◌⊎◌, option_map, map}
+use Rattle.std.proofs.Common.{inl, inr}
+use Rattle.vtl_values.specs.declared.place.Place.{Place}
+use Rattle.vtl_tokens.specs.declared.keyword.Keyword.TheVariants as words
+use Rattle.vtl_syntax.specs.declared.expr.Expr.{Expr}
+use Rattle.vtl_syntax.specs.declared.expr.Expr.TheVariants as tree
+use Rattle.vtl_syntax.specs.declared.expr.JoinOperand.{JoinOperand}
+use Rattle.vtl_syntax.specs.declared.expr.SubstrRange.{SubstrRange}
+use Rattle.vtl_syntax.specs.declared.expr.Over.{Over}
+use Rattle.vtl_syntax.specs.declared.expr.OrderItem.{OrderItem}
+use Rattle.vtl_syntax.specs.declared.expr.Points.{Points}
+use Rattle.vtl_syntax.specs.declared.words.UnaryFunction.{UnaryFunction}
+use Rattle.vtl_syntax.specs.declared.words.RoundFunction.{RoundFunction}
+use Rattle.vtl_syntax.specs.declared.words.BinaryFunction.{BinaryFunction}
+use Rattle.vtl_syntax.specs.declared.words.SetFunction.{SetFunction}
+use Rattle.vtl_syntax.specs.declared.words.DifferenceFunction.{DifferenceFunction}
+use Rattle.vtl_syntax.specs.declared.words.JoinFunction.{JoinFunction}
+use Rattle.vtl_syntax.specs.declared.words.AggregateFunction.{AggregateFunction}
+use Rattle.vtl_syntax.specs.declared.words.AggregateFunction.TheVariants as aggregate_word
+use Rattle.vtl_syntax.specs.declared.words.WindowFunction.{WindowFunction}
+use Rattle.vtl_syntax.specs.declared.words.WindowFunction.TheVariants as window_word
+use Rattle.vtl_syntax.specs.declared.words.OffsetFunction.{OffsetFunction}
+use Rattle.vtl_syntax.specs.declared.words.Direction.{Direction}
+use Rattle.vtl_syntax.specs.declared.words.Direction.TheVariants as direction
+use Rattle.vtl_syntax.specs.declared.words.WindowStart.{WindowStart}
+use Rattle.vtl_syntax.specs.declared.words.WindowStart.TheVariants as start
+use Rattle.vtl_syntax.specs.declared.words.WindowEnd.{WindowEnd}
+use Rattle.vtl_syntax.specs.declared.words.WindowEnd.TheVariants as stop
+use Rattle.vtl_syntax.specs.declared.words.ExistsRows.{ExistsRows}
+use Rattle.vtl_syntax.specs.declared.words.ExistsRows.TheVariants as exists_rows
+use Rattle.vtl_syntax.specs.declared.words.RowsOutput.{RowsOutput}
+use Rattle.vtl_syntax.specs.declared.words.RowsOutput.TheVariants as rows_output
+use Rattle.vtl_syntax.specs.declared.words.CheckOutput.{CheckOutput}
+use Rattle.vtl_syntax.specs.declared.words.CheckOutput.TheVariants as check_output
+use Rattle.vtl_syntax.specs.declared.words.Mode.{Mode}
+use Rattle.vtl_syntax.specs.declared.words.Mode.TheVariants as mode
+use Rattle.vtl_syntax.specs.declared.words.HierarchyInput.{HierarchyInput}
+use Rattle.vtl_syntax.specs.declared.words.HierarchyInput.TheVariants as hierarchy_input
+use Rattle.vtl_syntax.specs.declared.words.HierarchyOutput.{HierarchyOutput}
+use Rattle.vtl_syntax.specs.declared.words.HierarchyOutput.TheVariants as hierarchy_output
+use Rattle.vtl_syntax.specs.declared.words.CheckInput.{CheckInput}
+use Rattle.vtl_syntax.specs.declared.words.CheckInput.TheVariants as check_input
+use Rattle.vtl_grammar.specs.Rules.{Rule, name, integer, text, part, ◌▸◌, option, suffix, either, repeated, prefixed, here, component, clause, filtering, calculating, keeping, renaming, operands, Of, word, expr, comma, open_paren, close_paren, commas, listed}
+use Rattle.vtl_grammar.specs.Clauses.{literal, literal_of, signed_integer, signed_of, names, names_of, groups, groups_of}
+
+-- a form that begins with a word of its own: its level, what comes behind the word, and the tree with the word's place
+pub record Form : Type 0 where
+  pub level : ℕ
+  pub rule : Rule
+  pub tree : Of rule → Place → Expr
+
+-- the second of two
+abbrev pub second : {A B : Type 0} → A × B → B
+second v = v.1
+
+-- ---- scalar functions
+
+-- F(expr)
+abbrev pub unary : UnaryFunction → Form
+unary f = record { level = 7; rule = open_paren ▸ expr 0 ▸ close_paren; tree = λ v p. tree.Unary f v.1.0 p }
+
+-- F(expr [, ["-"] integer])
+abbrev pub round : RoundFunction → Form
+round f = record { level = 7; rule = open_paren ▸ expr 0 ▸ option (comma ▸ signed_integer) close_paren; tree = λ v p. tree.Round f v.1.0 (option_map (λ w. signed_of w.1) v.1.1.0) p }
+
+-- expr, expr)
+abbrev pub two_operands : Rule
+two_operands = open_paren ▸ expr 0 ▸ comma ▸ expr 0 ▸ close_paren
+
+-- F(expr, expr)
+abbrev pub binary : BinaryFunction → Form
+binary f = record { level = 7; rule = two_operands; tree = λ v p. tree.Binary f v.1.0 v.1.1.1.0 p }
+
+-- between(expr, lit, lit)
+abbrev pub between : Form
+between = record { level = 7; rule = open_paren ▸ expr 0 ▸ comma ▸ literal ▸ comma ▸ literal ▸ close_paren; tree = λ v p. tree.Between v.1.0 (literal_of v.1.1.1.0) (literal_of v.1.1.1.1.1.0) p }
+
+-- match_characters(expr, string)
+abbrev pub match_characters : Form
+match_characters = record { level = 7; rule = open_paren ▸ expr 0 ▸ comma ▸ text ▸ close_paren; tree = λ v p. tree.MatchCharacters v.1.0 v.1.1.1.0.value p }
+
+-- [, expr [, expr]])
+abbrev pub substr_rest : Rule
+substr_rest = either close_paren (comma ▸ expr 0 ▸ option (comma ▸ expr 0) close_paren)
+
+abbrev pub range_of : Of substr_rest → Option SubstrRange
+range_of (inl p) = None
+range_of (inr w) = Some (record { start = w.1.0; length = option_map second w.1.1.0; place = w.0 })
+
+-- substr(expr [, expr [, expr]])
+abbrev pub substr : Form
+substr = record { level = 7; rule = open_paren ▸ expr 0 ▸ substr_rest; tree = λ v p. tree.Substr v.1.0 (range_of v.1.1) p }
+
+-- replace(expr, expr [, expr])
+abbrev pub replace : Form
+replace = record { level = 7; rule = open_paren ▸ expr 0 ▸ comma ▸ expr 0 ▸ option (comma ▸ expr 0) close_paren; tree = λ v p. tree.Replace v.1.0 v.1.1.1.0 (option_map second v.1.1.1.1.0) p }
+
+-- ---- sets and joins
+
+abbrev pub exists_rows_rule : Rule
+exists_rows_rule = either (word words.All) (either (word words.True) (word words.False))
+
+abbrev pub exists_rows_of : Of exists_rows_rule → ExistsRows
+exists_rows_of (inl p) = exists_rows.All
+exists_rows_of (inr (inl p)) = exists_rows.True
+exists_rows_of (inr (inr p)) = exists_rows.False
+
+-- exists_in(expr, expr [, all or true or false])
+abbrev pub exists_in : Form
+exists_in = record { level = 7; rule = open_paren ▸ expr 0 ▸ comma ▸ expr 0 ▸ option (comma ▸ exists_rows_rule) close_paren; tree = λ v p. tree.ExistsIn v.1.0 v.1.1.1.0 (option_map (λ w. exists_rows_of w.1) v.1.1.1.1.0) p }
+
+-- F(expr, expr {, expr})
+abbrev pub sets : SetFunction → Form
+sets f = record { level = 7; rule = open_paren ▸ expr 0 ▸ comma ▸ repeated operands (expr 0) (comma ▸ expr 0) ▸ close_paren; tree = λ v p. tree.Sets f v.1.0 v.1.1.1.0.0 (map second v.1.1.1.0.1) p }
+
+-- F(expr, expr)
+abbrev pub difference : DifferenceFunction → Form
+difference f = record { level = 7; rule = two_operands; tree = λ v p. tree.Difference f v.1.0 v.1.1.1.0 p }
+
+-- expr [as name]
+abbrev pub join_operand : Rule
+join_operand = here (suffix (expr 0) (word words.As ▸ name))
+
+abbrev pub join_operand_of : Of join_operand → JoinOperand
+join_operand_of v = record { expr = v.1.0; alias = option_map (λ w. w.1.value) v.1.1; place = v.0 }
+
+-- ["filter" ..] ["calc" ..] ["keep" .. or "drop" ..] ["rename" ..])
+abbrev pub join_clauses : Rule
+join_clauses = option (part (clause filtering)) (option (part (clause calculating)) (option (part (clause keeping)) (option (part (clause renaming)) close_paren)))
+
+-- F(expr [as name], expr [as name] {, expr [as name]} clauses)
+abbrev pub join : JoinFunction → Form
+join f = record {
+  level = 7;
+  rule = open_paren ▸ join_operand ▸ comma ▸ repeated operands join_operand (comma ▸ join_operand) ▸ join_clauses;
+  tree = λ v p. tree.Join f (join_operand_of v.1.0) (join_operand_of v.1.1.1.0.0) (map (λ w. join_operand_of w.1) v.1.1.1.0.1) v.1.1.1.1.0 v.1.1.1.1.1.0 v.1.1.1.1.1.1.0 v.1.1.1.1.1.1.1.0 p;
+}
+
+-- ---- aggregates and windows
+
+-- name ["asc" | "desc"]
+abbrev pub order_item : Rule
+order_item = suffix name (either (word words.Asc) (word words.Desc))
+
+abbrev pub direction_of : Place ⊎ Place → Direction
+direction_of (inl p) = direction.Ascending
+direction_of (inr p) = direction.Descending
+
+abbrev pub order_item_of : Of order_item → OrderItem
+order_item_of v = record { name = v.0.value; direction = option_map direction_of v.1; place = v.0.place }
+
+-- "current" "data" "point"
+abbrev pub current_point : Rule
+current_point = word words.Current ▸ word words.Data ▸ word words.Point
+
+-- integer "preceding" | "unbounded" "preceding" | "current" "data" "point"
+abbrev pub window_start : Rule
+window_start = either (integer ▸ word words.Preceding) (either (word words.Unbounded ▸ word words.Preceding) current_point)
+
+abbrev pub window_start_of : Of window_start → WindowStart
+window_start_of (inl v) = start.Preceding v.0.value
+window_start_of (inr (inl v)) = start.UnboundedPreceding
+window_start_of (inr (inr v)) = start.Current
+
+-- integer "following" | "unbounded" "following" | "current" "data" "point"
+abbrev pub window_end : Rule
+window_end = either (integer ▸ word words.Following) (either (word words.Unbounded ▸ word words.Following) current_point)
+
+abbrev pub window_end_of : Of window_end → WindowEnd
+window_end_of (inl v) = stop.Following v.0.value
+window_end_of (inr (inl v)) = stop.UnboundedFollowing
+window_end_of (inr (inr v)) = stop.Current
+
+-- "data" "points" "between" from "and" to
+abbrev pub points : Rule
+points = word words.Data ▸ word words.Points ▸ word words.Between ▸ window_start ▸ word words.And ▸ window_end
+
+abbrev pub points_of : Of points → Points
+points_of v = record { from = window_start_of v.1.1.1.0; to = window_end_of v.1.1.1.1.1; place = v.0 }
+
+-- "over" "(" ["partition" "by" name {"," name}] ["order" "by" oitem {"," oitem}] [points] ")"
+abbrev pub over : Rule
+over = word words.Over ▸ open_paren ▸ option (word words.Partition ▸ word words.By ▸ names) (option (word words.Order ▸ word words.By ▸ commas order_item) (option points close_paren))
+
+abbrev pub over_of : Of over → Over
+over_of v = record { partition = option_map (λ w. names_of w.1.1) v.1.1.0; order = option_map (λ w. listed order_item_of w.1.1) v.1.1.1.0; points = option_map points_of v.1.1.1.1.0; place = v.0 }
+
+-- [over | groups])
+abbrev pub over_or_groups : Rule
+over_or_groups = option (either over groups) close_paren
+
+abbrev pub aggregate_of : AggregateFunction → WindowFunction → Expr → Option (Of over ⊎ Of groups) → Place → Expr
+aggregate_of f g e None p = tree.Aggregate f e None p
+aggregate_of f g e (Some (inl w)) p = tree.Window g e (over_of w) p
+aggregate_of f g e (Some (inr w)) p = tree.Aggregate f e (Some (groups_of w)) p
+
+-- F(expr [grouping ["having" expr]]), F(expr over)
+abbrev pub aggregate : AggregateFunction → WindowFunction → Form
+aggregate f g = record { level = 7; rule = open_paren ▸ expr 0 ▸ over_or_groups; tree = λ v p. aggregate_of f g v.1.0 v.1.1.0 p }
+
+abbrev pub count_rest : Rule
+count_rest = either close_paren (expr 0 ▸ over_or_groups)
+
+abbrev pub count_of : Of count_rest → Place → Expr
+count_of (inl q) p = tree.CountAll p
+count_of (inr v) p = aggregate_of aggregate_word.Count window_word.Count v.0 v.1.0 p
+
+-- count(), and count as the other aggregates
+abbrev pub count : Form
+count = record { level = 7; rule = open_paren ▸ count_rest; tree = λ v p. count_of v.1 p }
+
+-- F(expr over)
+abbrev pub window : WindowFunction → Form
+window f = record { level = 7; rule = open_paren ▸ expr 0 ▸ over ▸ close_paren; tree = λ v p. tree.Window f v.1.0 (over_of v.1.1.0) p }
+
+-- F(expr, integer over)
+abbrev pub offset : OffsetFunction → Form
+offset f = record { level = 7; rule = open_paren ▸ expr 0 ▸ comma ▸ integer ▸ over ▸ close_paren; tree = λ v p. tree.Offset f v.1.0 v.1.1.1.0.value (over_of v.1.1.1.1.0) p }
+
+-- rank(over)
+abbrev pub rank : Form
+rank = record { level = 7; rule = open_paren ▸ over ▸ close_paren; tree = λ v p. tree.Rank (over_of v.1.0) p }
+
+-- ---- rulesets and checks
+
+-- "invalid" | "all" | "all_measures"
+abbrev pub rows_output_rule : Rule
+rows_output_rule = either (word words.Invalid) (either (word words.All) (word words.AllMeasures))
+
+abbrev pub rows_output_of : Of rows_output_rule → RowsOutput
+rows_output_of (inl p) = rows_output.Invalid
+rows_output_of (inr (inl p)) = rows_output.All
+rows_output_of (inr (inr p)) = rows_output.AllMeasures
+
+-- check_datapoint(expr, name [output])
+abbrev pub check_datapoint : Form
+check_datapoint = record {
+  level = 7;
+  rule = open_paren ▸ expr 0 ▸ comma ▸ name ▸ option rows_output_rule close_paren;
+  tree = λ v p. tree.CheckDatapoint v.1.0 v.1.1.1.0.value v.1.1.1.0.place (option_map rows_output_of v.1.1.1.1.0) p;
+}
+
+abbrev pub mode_rule : Rule
+mode_rule = either (word words.NonNull) (either (word words.NonZero) (either (word words.PartialNull) (either (word words.PartialZero) (either (word words.AlwaysNull) (word words.AlwaysZero)))))
+
+abbrev pub mode_of : Of mode_rule → Mode
+mode_of (inl p) = mode.NonNull
+mode_of (inr (inl p)) = mode.NonZero
+mode_of (inr (inr (inl p))) = mode.PartialNull
+mode_of (inr (inr (inr (inl p)))) = mode.PartialZero
+mode_of (inr (inr (inr (inr (inl p))))) = mode.AlwaysNull
+mode_of (inr (inr (inr (inr (inr p))))) = mode.AlwaysZero
+
+abbrev pub hierarchy_input_rule : Rule
+hierarchy_input_rule = either (word words.Rule) (either (word words.Dataset) (word words.RulePriority))
+
+abbrev pub hierarchy_input_of : Of hierarchy_input_rule → HierarchyInput
+hierarchy_input_of (inl p) = hierarchy_input.Rule
+hierarchy_input_of (inr (inl p)) = hierarchy_input.Dataset
+hierarchy_input_of (inr (inr p)) = hierarchy_input.RulePriority
+
+abbrev pub hierarchy_output_rule : Rule
+hierarchy_output_rule = either (word words.Computed) (word words.All)
+
+abbrev pub hierarchy_output_of : Of hierarchy_output_rule → HierarchyOutput
+hierarchy_output_of (inl p) = hierarchy_output.Computed
+hierarchy_output_of (inr p) = hierarchy_output.All
+
+abbrev pub check_input_rule : Rule
+check_input_rule = either (word words.Dataset) (word words.DatasetPriority)
+
+abbrev pub check_input_of : Of check_input_rule → CheckInput
+check_input_of (inl p) = check_input.Dataset
+check_input_of (inr p) = check_input.DatasetPriority
+
+-- hierarchy(expr, name ["rule" name] [mode] [input] [output]); `rule` before a name gives the component
+abbrev pub hierarchy : Form
+hierarchy = record {
+  level = 7;
+  rule = open_paren ▸ expr 0 ▸ comma ▸ name ▸ prefixed component (option mode_rule (option hierarchy_input_rule (option hierarchy_output_rule close_paren)));
+  tree = λ v p. tree.Hierarchy v.1.0 v.1.1.1.0.value v.1.1.1.0.place (option_map (λ w. w.value) v.1.1.1.1.0) (option_map mode_of v.1.1.1.1.1.0) (option_map hierarchy_input_of v.1.1.1.1.1.1.0) (option_map hierarchy_output_of v.1.1.1.1.1.1.1.0) p;
+}
+
+-- check_hierarchy(expr, name ["rule" name] [mode] [input] [output])
+abbrev pub check_hierarchy : Form
+check_hierarchy = record {
+  level = 7;
+  rule = open_paren ▸ expr 0 ▸ comma ▸ name ▸ option (word words.Rule ▸ name) (option mode_rule (option check_input_rule (option rows_output_rule close_paren)));
+  tree = λ v p. tree.CheckHierarchy v.1.0 v.1.1.1.0.value v.1.1.1.0.place (option_map (λ w. w.1.value) v.1.1.1.1.0) (option_map mode_of v.1.1.1.1.1.0) (option_map check_input_of v.1.1.1.1.1.1.0) (option_map rows_output_of v.1.1.1.1.1.1.1.0) p;
+}
+
+abbrev pub check_output_rule : Rule
+check_output_rule = either (word words.All) (word words.Invalid)
+
+abbrev pub check_output_of : Of check_output_rule → CheckOutput
+check_output_of (inl p) = check_output.All
+check_output_of (inr p) = check_output.Invalid
+
+-- check(expr ["errorcode" string] ["errorlevel" ["-"] integer] ["imbalance" expr] [all or invalid])
+abbrev pub check : Form
+check = record {
+  level = 7;
+  rule = open_paren ▸ expr 0 ▸ option (word words.Errorcode ▸ text) (option (word words.Errorlevel ▸ signed_integer) (option (word words.Imbalance ▸ expr 0) (option check_output_rule close_paren)));
+  tree = λ v p. tree.Check v.1.0 (option_map (λ w. w.1.value) v.1.1.0) (option_map (λ w. signed_of w.1) v.1.1.1.0) (option_map second v.1.1.1.1.0) (option_map check_output_of v.1.1.1.1.1.0) p;
+}

@@ -1,0 +1,12 @@
+pub mod Marks
+pub mod Rules
+pub mod Clauses
+pub mod Calls
+pub mod Forms
+pub mod Expressions
+pub mod Rulesets
+pub mod Scripts
+pub mod Faults
+pub mod Reading
+pub mod ScriptReading
+pub mod Laws

@@ -1,0 +1,28 @@
+// The laws of the grammar.
+ghost use Rattle.vtl_grammar.specs.Laws.{OneScript, ReadsRightly, ReadsScripts, TellsFaults, TellsRename};
+
+/// Reading gives a script only where the tokens are it; else it stops at the first token with which no script goes
+/// on, or at the end, and tells whether one of other limits does.
+pub fn reads_rightly()
+    ensures { ReadsRightly }
+{}
+
+/// A script is read as itself.
+pub fn reads_scripts()
+    ensures { ReadsScripts }
+{}
+
+/// Tokens are one script at most.
+pub fn one_script()
+    ensures { OneScript }
+{}
+
+/// Where reading stops there is a fault: the word is left out, or no script goes on, or only one of other limits.
+pub fn tells_faults()
+    ensures { TellsFaults }
+{}
+
+/// Reading with `rename` put in tells whether a script goes on with it.
+pub fn tells_rename()
+    ensures { TellsRename }
+{}

@@ -1,0 +1,12 @@
+//! The grammar of scripts: which lists of tokens are a script, which script they are, and where reading stops else.
+//!
+//! `specs/` has the grammar of `docs/language.md`, section "Grammar", as rules that are data, with a row for each form
+//! of expression, the tokens that a rule spells, and a reader that goes from left to right and looks at one token, two
+//! before a name with a colon or a component. `laws` proves that the reader answers exactly by the grammar: it gives
+//! the script that the tokens are, tokens are one script at most, and it stops at the first token with which no script
+//! within the limits goes on. The parser is proved to answer as the reader does.
+//!
+//! It stands on `vtl_tokens` and `vtl_syntax`.
+#![tactic(auto)]
+
+pub mod laws;

@@ -1,0 +1,21 @@
+// Scripts.
+use crate::expr::Expr;
+use crate::ruleset::Ruleset;
+use sqlite_items::Items;
+use vtl_values::{Place, Word};
+
+/// A script. Both lists are in its order; the order between a statement and a ruleset is that of their places.
+#[derive(Drop)]
+pub struct Script {
+    pub statements: Items<Statement>,
+    pub rulesets: Items<Ruleset>,
+}
+
+/// `name <- expr` or `name := expr`. The result is published where it is persistent, which is `<-`.
+#[derive(Drop)]
+pub struct Statement {
+    pub name: Word,
+    pub persistent: bool,
+    pub expr: Expr,
+    pub place: Place,
+}
