@@ -1,2 +1,6 @@
 pub mod SoFar
 pub mod SumLemmas
+pub mod Items
+pub mod ScriptLemmas
+pub mod FitLemmas
+pub mod EmptyLemmas

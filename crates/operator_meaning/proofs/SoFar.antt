@@ -1,5 +1,5 @@
 -- The sum of two data sets at the first keys of the one.
-use Rattle.std.proofs.Common.{◌≡◌, List, Bool, true, false, Option, None, cond, option_map, ◌++◌}
+use Rattle.std.proofs.Common.{◌≡◌, List, true, false, Option, None, cond, option_map, ◌++◌}
 use Rattle.std.specs.FinMap.{get}
 use Rattle.vtl_values.specs.declared.value.Value.{Value}
 use Rattle.vtl_values.specs.Order.{key_cmp}

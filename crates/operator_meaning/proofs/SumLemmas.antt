@@ -1,8 +1,6 @@
 -- The sum of two data sets, key by key.
-use Rattle.std.proofs.Common.{◌≡◌, ◌≢◌, ◌∙◌, ◌<◌, ◌≤◌, ℕ, zero, suc, List, [], ◌∷◌, ◌++◌, ◌+◌, length, map, take, get_or, Option, Some, None, Bool, true, false, cond, T, ◌&&◌, ◌||◌, not, refl, sym, ap, subst, inl, inr, arith, option_map}
+use Rattle.std.proofs.Common.{◌≡◌, ◌∙◌, ◌<◌, ◌≤◌, ℕ, zero, suc, List, [], ◌∷◌, ◌++◌, ◌+◌, length, map, take, get_or, Option, Some, None, Bool, true, false, cond, T, ◌&&◌, ◌||◌, refl, sym, ap, subst, inl, inr, arith, option_map}
 use Rattle.std.specs.Option.{option_zip}
-use Rattle.std.specs.declared.sync.Arc.{Arc}
-use Rattle.std.specs.declared.alloc.Global.{Global}
 use Rattle.std.proofs.lemmas.List.{take_more, map-append}
 use Rattle.std.proofs.lemmas.Bool.{cases_Bool}
 use Rattle.std.proofs.lemmas.List.{append_assoc, append-nil}
@@ -11,18 +9,18 @@ use Rattle.std.specs.declared.cmp.Ordering.{Ordering}
 use Rattle.std.specs.declared.cmp.Ordering.TheVariants.{Less, Equal, Greater}
 use Rattle.std.specs.Ordering.{is_lt, eq_by_cmp}
 use Rattle.std.specs.Cmp.{IsTotalOrder}
-use Rattle.std.specs.FinMap.{FinMap, IsAntisymmetric, empty, insert, get, len, keys, entries, entries_sorted, get-empty, get-insert, get-entries, find, is_sorted}
+use Rattle.std.specs.FinMap.{IsAntisymmetric, empty, get, len, keys, entries, entries_sorted, get-empty, get-insert, get-entries, is_sorted}
 use Rattle.std.specs.FinMap.Entries.{below_all}
 use Rattle.vtl_values.specs.declared.value.Value.{Value}
 use Rattle.vtl_values.specs.Order.{key_cmp}
 use Rattle.vtl_values.proofs.Values.{key_cmp-IsTotalOrder, key_cmp-IsAntisymmetric}
 use Rattle.data_model.specs.Maps.{is_listed}
-use Rattle.data_model.specs.Outcomes.{Outcome, Made, Range, TooMany, IsLeast, IsResult, settled}
-use Rattle.data_model.proofs.MapLemmas.{tied, get-unlisted, is_listed-keys}
+use Rattle.data_model.specs.Outcomes.{Range, IsOutcome, settled}
+use Rattle.data_model.proofs.MapLemmas.{tied, get-unlisted}
 use Rattle.data_model.proofs.EntryLemmas.{find-get_or}
 use Rattle.data_model.proofs.DeltaLemmas.{contradicted}
 use Rattle.data_model.proofs.DraftLemmas.{is_listed-last}
-use Rattle.data_model.proofs.OutcomeLemmas.{not_below_tied, not_both_below, IsOutcome-result, outcome-of}
+use Rattle.data_model.proofs.OutcomeLemmas.{not_below_tied, not_both_below, IsOutcome-result, outcome-is, outcome-of}
 use Rattle.point_sets.specs.DataSets.{DataSet}
 use Rattle.operator_meaning.specs.Outcomes.{IsSumPut}
 use Rattle.operator_meaning.specs.Sums.{plus_all, sum_with, sum_at, is_out_of_range, evaluated, sum}
@@ -136,6 +134,11 @@ module _ (a b : DataSet) where
 
   covers : (k : List Value) → is_listed key_cmp (keys a) k ≡ false → sum_at a b k ≡ None
   covers k h = rw (get-unlisted key_cmp-IsTotalOrder a k h) refl
+
+  -- the sum is the outcome of its evaluations in words
+  pub sum-IsOutcome : IsOutcome {R = key_cmp} (λ k. is_out_of_range (sum_at a b k)) (λ k. evaluated (sum_at a b k)) (sum a b)
+  sum-IsOutcome = outcome-is key_cmp-IsTotalOrder key_cmp-IsAntisymmetric (keys a) _ (keys a) _
+      (record { evaluations = λ k l. ap is_out_of_range (covers k l); points = λ k l. ap evaluated (covers k l) })
 
   -- all keys are done
   pub sum-all : (set : DataSet) → SumSoFar a b set (keys a) → sum a b ≡ settled None (len set) set

@@ -1,2 +1,5 @@
 pub mod Outcomes
 pub mod Sums
+pub mod Operators
+pub mod Results
+pub mod Scripts

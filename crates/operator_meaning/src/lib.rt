@@ -5,6 +5,7 @@
 //! evaluation is out of range, or that the result has too many points.
 #![tactic(auto)]
 
+pub mod laws;
 pub mod sum;
 
 pub use sum::{SetOutcome, sum_sets};

@@ -33,8 +33,8 @@ fn plus(a: &Value, b: &Value) -> Option<Value>
     }
 }
 
-// Measure by measure; none where one is out of range.
-fn plus_all(alloc: Global, a: &[Value], b: &[Value]) -> Result<Option<Vec<Value>>, AllocError>
+/// The sums of measures, one by one; none where one is out of range.
+pub fn plus_all(alloc: Global, a: &[Value], b: &[Value]) -> Result<Option<Vec<Value>>, AllocError>
     ensures { IfOk result (λ sums. option_map (λ v. v.items) sums ≡ meant.plus_all a.now b.now) }
 {
     let mut sums = Vec::new(alloc);
