@@ -1,0 +1,12 @@
+-- The structure of examples.
+use Rattle.std.specs.Prelude.{List, [], ◌∷◌, codes}
+use Rattle.vtl_values.specs.declared.kind.Kind.TheVariants as kind
+use Rattle.vtl_values.specs.declared.kind.Role.TheVariants as role
+use Rattle.vtl_values.specs.declared.structure.Codes.TheVariants as code_list
+use Rattle.vtl_values.specs.declared.structure.Component.{Component}
+
+-- a text that tells points apart, and a number
+abbrev pub ID_AND_ME : List Component
+ID_AND_ME =
+    record { name = codes "Id"; role = role.Identifier; kind = kind.Text; codes = code_list.Any }
+    ∷ record { name = codes "Me"; role = role.Measure; kind = kind.Number; codes = code_list.Any } ∷ []

@@ -1,0 +1,4 @@
+pub mod Rules
+pub mod Evaluations
+pub mod Noted
+pub mod Examples
