@@ -1,19 +1,78 @@
-// Pages and releases.
+// Releases.
 ghost use Rattle.std.specs.Prelude.{◌≡◌, ◌++◌, IfOk, OnOk, map};
-ghost use Rattle.release_text.specs.Releases.{page_text, release};
+ghost use Rattle.outside.specs.Sinks.{Extends};
+ghost use Rattle.release_text.specs.Releases.{release, release_line};
 ghost use Rattle.release_text.specs.Shown.{shown};
 
-use crate::table::rows_text;
-use point_sets::PointSet;
+use crate::pages::{Page, Pages, push_page};
+use itoa::Buffer;
+use outside::{Sink, SinkStop, put};
+use sqlite_items::Items;
 use std::alloc::{AllocError, Global};
-use vtl_values::{Structure, Word};
 
-/// A data set of a release, with its name and its structure.
-#[derive(Clone, Copy, Debug)]
-pub struct Page<'a> {
-    pub name: &'a Word,
-    pub structure: &'a Structure,
-    pub set: &'a PointSet,
+/// A numbered release: the prefix of accepted revisions that it stands on, and the pages of the persistent statements
+/// in the order of the script.
+#[derive(Debug, Drop)]
+pub struct Release {
+    pub number: u64,
+    pub prefix: u64,
+    pub pages: Items<Pages>,
+}
+
+impl Release {
+    /// An equal release, whose pages share what they hold, or want of memory.
+    pub fn copy(&self, alloc: Global) -> Result<Release, AllocError>
+        ensures { IfOk result (λ copied. copied ≡ self.now) }
+    {
+        Ok(Release {
+            number: self.number,
+            prefix: self.prefix,
+            pages: copy_pages(alloc, self.pages.as_slice())?,
+        })
+    }
+
+    /// Writes the line `release NUMBER prefix PREFIX` and the pages behind what was written so far, unless that has
+    /// stopped already. It takes no memory but what the sink takes. At a stop a prefix of the text is written.
+    pub fn write_to<K: Sink>(
+        &self,
+        out: &mut K,
+        so_far: Result<(), SinkStop>,
+    ) -> Result<(), SinkStop>
+        ensures { Extends (K.view out.old) (K.view out.new) so_far result (release self.now.number self.now.prefix self.now.pages) }
+    {
+        let mut written = write_line(out, so_far, self.number, self.prefix);
+        for page in self.pages.as_slice() {
+            written = page.write_to(out, written);
+        }
+        written
+    }
+}
+
+fn copy_pages(alloc: Global, pages: &[Pages]) -> Result<Items<Pages>, AllocError>
+    ensures { IfOk result (λ copies. copies ≡ pages.now) }
+{
+    let mut copies = Vec::new(alloc);
+    for page in pages {
+        copies.push(page.copy()?)?;
+    }
+    Ok(Items::from_vec(copies))
+}
+
+// Writes the line of a release, its numbers from a buffer of fixed size.
+fn write_line<K: Sink>(
+    out: &mut K,
+    so_far: Result<(), SinkStop>,
+    number: u64,
+    prefix: u64,
+) -> Result<(), SinkStop>
+    ensures { Extends (K.view out.old) (K.view out.new) so_far result (release_line number prefix) }
+{
+    let mut digits = Buffer::new();
+    let written = put(out, so_far, b"release ");
+    let written = put(out, written, digits.format(number).as_bytes());
+    let written = put(out, written, b" prefix ");
+    let written = put(out, written, digits.format(prefix).as_bytes());
+    put(out, written, b"\n")
 }
 
 /// The text of the release of this number at this prefix, or want of memory.
@@ -30,15 +89,4 @@ pub fn release_text(
         push_page(alloc, &mut text, page)?;
     }
     Ok(text)
-}
-
-fn push_page(alloc: Global, text: &mut Vec<u8>, page: &Page) -> Result<(), AllocError>
-    ensures { OnOk result (text.new.items ≡ text.old.items ++ page_text (shown page.now)) }
-{
-    text.push(b'[')?;
-    text.extend_from_slice(page.name.as_str().as_bytes())?;
-    text.extend_from_slice(b"]\n")?;
-    let table = rows_text(alloc, page.structure, page.set)?;
-    text.extend_from_slice(table.as_slice())?;
-    Ok(())
 }

@@ -1,8 +1,11 @@
 // Texts of tables and releases, written out by hand.
-ghost use Rattle.std.specs.Prelude.{◌≡◌, IfOk};
+ghost use Rattle.std.specs.Prelude.{◌≡◌, IfOk, None};
+ghost use Rattle.std.specs.FinMap as finmap;
+ghost use Rattle.point_sets.specs.Changes.{IsChange};
 
-use crate::{Page, release_text, rows_text, values_row};
-use point_sets::{Key, Point, PointSet};
+use crate::{Page, Pages, Release, release_text, rows_text, values_row};
+use outside::{MemorySink, SinkStop};
+use point_sets::{Change, Delta, Key, Point, PointSet};
 use sqlite_items::Items;
 use std::alloc::{AllocError, Global};
 use std::process::Abort;
@@ -147,5 +150,135 @@ fn writes_tables_and_releases(rt: HostRuntime) -> Result<(), Fail> {
     assert!(rt; text.as_slice() == wanted.as_bytes());
     let text = release_text(alloc, 0, 0, &[])?;
     assert!(rt; text.as_slice() == b"release 0 prefix 0\n".as_slice());
+    Ok(())
+}
+
+fn without_points(alloc: Global, name: &str, structure: &Structure) -> Result<Pages, AllocError>
+    ensures { IfOk result (λ pages. pages.set ≡ finmap.empty) }
+{
+    Pages::empty(alloc, &Word::from_str(alloc, name)?, structure)
+}
+
+fn after_change(alloc: Global, pages: &Pages, change: Change) -> Result<Pages, AllocError>
+    requires set { pages.now.set ≡ finmap.empty }
+    requires change { IsChange change }
+    requires old { change.old ≡ None }
+{
+    let mut changes = Vec::new(alloc);
+    changes.push(change)?;
+    pages.after(&Delta::of(changes))
+}
+
+fn with_one_point(alloc: Global, pages: &Pages) -> Result<Pages, AllocError>
+    requires { pages.now.set ≡ finmap.empty }
+{
+    let mut values = Vec::new(alloc);
+    values.push(text(alloc, "a,b")?)?;
+    let mut rest = Vec::new(alloc);
+    rest.push(text(alloc, "")?)?;
+    let point = Point {
+        key: Key::of(values),
+        rest: Items::from_vec(rest),
+    };
+    let key = point.key.copy(alloc)?;
+    let new = Some(Arc::new(alloc, point)?);
+    after_change(
+        alloc,
+        pages,
+        Change {
+            key,
+            old: None,
+            new,
+        },
+    )
+}
+
+fn sink_failing_at(alloc: Global, call: u64) -> Result<MemorySink, AllocError> {
+    Ok(MemorySink {
+        taken: Vec::new(alloc),
+        calls: 0,
+        fail_at: vec![in alloc; call]?,
+        faults: 0,
+    })
+}
+
+#[test]
+fn writes_pages(rt: HostRuntime) -> Result<(), Fail> {
+    let alloc = rt.alloc();
+    let structure = key_and_measure(&rt, alloc)?;
+    let empty = without_points(alloc, "größen, liste", &structure)?;
+    let one = with_one_point(alloc, &without_points(alloc, "DS_r", &structure)?)?;
+    for (pages, name, count, wanted) in [
+        (
+            &empty,
+            "größen, liste",
+            0,
+            "[größen, liste]\ngröße,\"a \"\"b\"\", c\"\n",
+        ),
+        (
+            &one,
+            "DS_r",
+            1,
+            "[DS_r]\ngröße,\"a \"\"b\"\", c\"\n\"a,b\",\\\n",
+        ),
+    ] {
+        let pages = pages.copy()?;
+        assert!(rt; pages.name().as_str() == name && pages.count() == count);
+        let mut sink = sink_failing_at(alloc, 1)?;
+        assert_eq!(rt; pages.write_to(&mut sink, Ok(())), Ok(()));
+        assert!(rt;
+            sink.taken.as_slice() == wanted.as_bytes(),
+            "wanted {wanted}"
+        );
+        assert_eq!(rt; pages.write_to(&mut sink, Ok(())), Err(SinkStop::Failed));
+    }
+    Ok(())
+}
+
+fn two_pages(rt: &impl Abort, alloc: Global) -> Result<Release, AllocError> {
+    let structure = key_and_measure(rt, alloc)?;
+    let mut pages = Vec::new(alloc);
+    pages.push(without_points(alloc, "größen, liste", &structure)?)?;
+    pages.push(with_one_point(alloc, &without_points(alloc, "DS_r", &structure)?)?)?;
+    Ok(Release {
+        number: 10,
+        prefix: u64::MAX,
+        pages: Items::from_vec(pages),
+    })
+}
+
+// Asks for a proof that threads may share the value.
+fn share<T: Send + Sync>(_value: &T) {}
+
+fn share_release(release: &Release) {
+    share(release);
+}
+
+#[test]
+fn writes_releases(rt: HostRuntime) -> Result<(), Fail> {
+    let alloc = rt.alloc();
+    let release = two_pages(&rt, alloc)?.copy(alloc)?;
+    share_release(&release);
+    for (fault, wanted, answer) in [
+        (0, "", Err(SinkStop::Failed)),
+        (3, "release 10 prefix ", Err(SinkStop::Failed)),
+        (
+            6,
+            "release 10 prefix 18446744073709551615\n[größen, liste]\ngröße,\"a \"\"b\"\", c\"\n",
+            Err(SinkStop::Failed),
+        ),
+        (
+            7,
+            "release 10 prefix 18446744073709551615\n[größen, liste]\ngröße,\"a \"\"b\"\", c\"\n[DS_r]\ngröße,\"a \"\"b\"\", c\"\n\"a,b\",\\\n",
+            Ok(()),
+        ),
+    ] {
+        let mut sink = sink_failing_at(alloc, fault)?;
+        assert_eq!(rt; release.write_to(&mut sink, Ok(())), answer);
+        assert!(rt;
+            sink.taken.as_slice() == wanted.as_bytes(),
+            "wanted {wanted}"
+        );
+    }
     Ok(())
 }

@@ -1,6 +1,6 @@
 use Rattle.std.proofs.Common.{append_assoc}
 use Rattle.release_text.specs.Releases.{page_text}
-use Rattle.release_text.proofs.release.push_page.Goals as goal
+use Rattle.release_text.proofs.pages.push_page.Goals as goal
 
 pub returns : goal.returns
 unfolding page_text
