@@ -1,0 +1,12 @@
+pub mod PlainLemmas
+pub mod SettleLemmas
+pub mod NodeLemmas
+pub mod CountLemmas
+pub mod RuleLemmas
+pub mod WorkLemmas
+pub mod TreeLemmas
+pub mod ChildLemmas
+pub mod WorldLemmas
+pub mod FinishLemmas
+pub mod BuildLemmas
+pub mod NewNodeLemmas

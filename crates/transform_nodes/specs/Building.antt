@@ -1,0 +1,63 @@
+-- How nodes are built.
+use Rattle.std.specs.Prelude.{◌≡◌, ◌<◌, Bool, true, List, map, length, slice_get, slice_index_or, Option, Some}
+use Rattle.std.specs.FinMap.{empty}
+use Rattle.std.specs.List.{All, AllZip, list_any}
+use Rattle.vtl_values.specs.declared.structure.Component.{Component}
+use Rattle.checked_trees.specs.declared.tree.CheckedNode.{CheckedNode}
+use Rattle.checked_trees.specs.declared.tree.CheckedTree.{CheckedTree}
+use Rattle.checked_trees.specs.declared.tree.Source.{Source}
+use Rattle.checked_trees.specs.Expressions.{Expression, Applied, expression_of, expressions, renamed}
+use Rattle.checked_trees.specs.Scripts.{is_same, names_in}
+use Rattle.checked_trees.specs.Typing.{HasStructure}
+use Rattle.held_index.specs.Holdings.{Holding, FitsStructure, IsPlain}
+use Rattle.held_index.specs.declared.want.Want.{Want}
+use Rattle.transform_nodes.specs.Trees.{Plain, expression, forgotten, IsFit, StandsOn}
+
+-- what is held of an operand without points
+abbrev pub nothing_held : Want → Holding
+nothing_held w = record { want = w; content = empty }
+
+-- the expression of an operator of a checked tree
+abbrev pub expression_of_node : CheckedNode → Expression Source
+expression_of_node n = Applied (record { op = n.op; operands = n.operands; structure = n.structure }) n.place (expressions (map expression_of n.children))
+
+-- whether the name is one of the sources
+abbrev pub is_among : List Source → Source → Bool
+is_among sources name = list_any (is_same name) sources
+
+-- the expression is well typed for some structures of its names
+pub record IsWellTyped (e : Expression Source) : Type 0 where
+  pub structures : Source → Option (List Component)
+  pub structure : List Component
+  pub typed : HasStructure structures e structure
+
+-- all names are among the sources
+abbrev pub AreAmong : List Source → List Source → Type 0
+AreAmong sources names = All (λ n. is_among sources n ≡ true) names
+
+-- a tree can be built: it is well typed, and all that it names is among the sources
+pub record CanBuild (sources : List Source) (e : Expression Source) : Type 0 where
+  pub typed : IsWellTyped e
+  pub named : AreAmong sources (names_in e)
+
+-- a new tree works the expression out over the numbered sources, holds what its rules want of empty operands, and has nothing pending
+pub record IsBuilt (sources : List Source) (e : Expression Source) (p : Plain) : Type 0 where
+  pub works_out : renamed (slice_get sources) (expression p) ≡ renamed Some e
+  pub fit : IsFit (length sources) p
+  pub alone : forgotten p ≡ p
+  pub stands : StandsOn p (λ n. empty)
+
+abbrev pub AllCanBuild : List Source → List CheckedTree → Type 0
+AllCanBuild sources trees = All (λ tree. CanBuild sources (expression_of tree)) trees
+
+abbrev pub AreBuilt : List Source → List CheckedTree → List Plain → Type 0
+AreBuilt sources trees ps = AllZip (λ tree p. IsBuilt sources (expression_of tree) p) trees ps
+
+-- a want is of an operand that there is, in the order of its keys, and names components of that
+pub record IsWanted (w : Want) (operands : List (List Component)) : Type 0 where
+  pub below : w.operand < length operands
+  pub plain : IsPlain w
+  pub fits : (operand : List Component) → FitsStructure w (slice_index_or operands w.operand operand)
+
+abbrev pub AreWanted : List Want → List (List Component) → Type 0
+AreWanted wants operands = All (λ w. IsWanted w operands) wants

@@ -1,0 +1,9 @@
+pub mod Rules
+pub mod Faults
+pub mod Halts
+pub mod Trees
+pub mod Settling
+pub mod Runs
+pub mod Nodes
+pub mod Carrying
+pub mod Building

@@ -1,0 +1,82 @@
+// The rule of any operator.
+ghost use Rattle.std.specs.Prelude.{◌≡◌, IfOk};
+
+use checked_trees::{CheckedNode, CheckedOp};
+use data_model::steps::Steps;
+use held_index::{DeltaRule, Held, Stop, Want};
+use pair_ops::PairRule;
+use point_sets::Delta;
+use std::alloc::{AllocError, Global};
+use std::sync::Arc;
+use std::sync::ledger::Ledger;
+use std::thread::Threads;
+use vtl_values::Structure;
+
+/// The rule of an operator, by its family.
+#[derive(Drop)]
+pub enum Rule {
+    Pair(PairRule),
+}
+
+impl Rule {
+    ghost use Rattle.checked_trees.specs.Operators.{IsTyped};
+    ghost use Rattle.transform_nodes.specs.Rules.{operator_of};
+
+    /// The rule of a node's operator.
+    pub fn of(alloc: Global, node: &CheckedNode) -> Result<Rule, AllocError>
+        requires { IsTyped (record { op = node.now.op; operands = node.now.operands; structure = node.now.structure }) }
+        ensures { IfOk result (λ rule. operator_of rule ≡ record { op = node.now.op; operands = node.now.operands; structure = node.now.structure }) }
+    {
+        match node.op {
+            CheckedOp::Pair(_) => Ok(Rule::Pair(PairRule::of(alloc, node)?)),
+        }
+    }
+
+    fn pair(&self) -> &PairRule
+        ensures { result.now ≡ operator_of self.now }
+    {
+        match self {
+            Rule::Pair(rule) => rule,
+        }
+    }
+}
+
+impl DeltaRule for Rule {
+    ghost use Rattle.std.specs.Prelude.{length};
+    ghost use Rattle.operator_meaning.specs.Operators.{meaning_of, AreOperands};
+    ghost use Rattle.transform_nodes.specs.Rules.{operator_of, wanted_of};
+
+    ghost arity = { λ r. length (operator_of r).operands };
+
+    ghost admits = { λ r. AreOperands (operator_of r).operands };
+
+    ghost meaning = { λ r. meaning_of (operator_of r) };
+
+    ghost wanted = { wanted_of };
+
+    ghost structure = { λ r. (operator_of r).structure };
+
+    fn wants(&self) -> &[Want] {
+        match self {
+            Rule::Pair(rule) => rule.wants(),
+        }
+    }
+
+    fn result(&self) -> &Structure {
+        match self {
+            Rule::Pair(rule) => rule.result(),
+        }
+    }
+
+    fn delta<R: Threads + Sync, L: Ledger>(
+        &self,
+        rt: &R,
+        alloc: Global,
+        before: u64,
+        held: &[Held],
+        news: &[Arc<Delta>],
+        steps: &mut Steps<L>,
+    ) -> Result<Delta, Stop> {
+        self.pair().delta(rt, alloc, before, held, news, steps)
+    }
+}
