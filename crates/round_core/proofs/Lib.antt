@@ -1,0 +1,14 @@
+mod Lists
+mod KeptLemmas
+mod JudgeLemmas
+mod SlotLemmas
+mod MoveLemmas
+mod ClaimLemmas
+mod EndLemmas
+mod NameLemmas
+mod GiveLemmas
+mod BackLemmas
+mod OpenLemmas
+mod NewLemmas
+mod StepLemmas
+mod AnswerLemmas

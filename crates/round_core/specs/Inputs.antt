@@ -1,0 +1,58 @@
+-- What the changes of inputs lead from and to.
+use Rattle.std.specs.Prelude.{◌≡◌, ◌<◌, ℕ, List, length, slice_index_or, Option, Some, None}
+use Rattle.std.specs.Arc.{arc_value}
+use Rattle.std.specs.declared.sync.Arc.{Arc}
+use Rattle.std.specs.declared.alloc.Global.{Global}
+use Rattle.std.specs.Option.{IsSomeAnd}
+use Rattle.std.specs.FinMap.{empty}
+use Rattle.data_model.specs.Deltas.{Leads}
+use Rattle.point_sets.specs.DataSets.{DataSet}
+use Rattle.point_sets.specs.Changes.{Changes}
+use Rattle.revision_judge.specs.Judging.{input}
+use Rattle.round_core.specs.declared.inputs.InputChange.{InputChange}
+use Rattle.round_core.specs.declared.inputs.Inputs.{Inputs}
+
+-- nothing changed, or the change leads from the one to the other
+abbrev pub LeadsOrStays : DataSet → DataSet → Option (Arc Changes Global) → Type 0
+LeadsOrStays x y None = x ≡ y
+LeadsOrStays x y (Some d) = Leads (arc_value d) x y
+
+-- an input was x at the last release, y as the last round was opened, and is z now
+pub record ChangeKept (x y z : DataSet) (change : InputChange) : Type 0 where
+  pub older : LeadsOrStays x y change.older
+  pub newer : Leads change.newer y z
+
+-- the change as a round is opened over the input of now
+abbrev pub Carries : InputChange → InputChange → Type 0
+Carries change next = (x y z : DataSet) → ChangeKept x y z change → ChangeKept x z z next
+
+-- the change leads up to now, and there is none from there
+pub record Starts (older : Changes) (next : InputChange) : Type 0 where
+  pub older_is : IsSomeAnd next.older (λ d. arc_value d ≡ older)
+  pub newer_is : next.newer ≡ empty
+
+-- all of them do
+pub record AllCarry (changes next : List InputChange) : Type 0 where
+  pub many : length next ≡ length changes
+  pub each : (i : ℕ) (d e : InputChange) → i < length changes → Carries (slice_index_or changes i d) (slice_index_or next i e)
+
+-- the change as the round is published
+abbrev pub closed : InputChange → InputChange
+closed change = record change { older = None }
+
+-- the inputs of the last release, of the last round, and of now
+pub record InputsKept (bases tos nows : List DataSet) (a : Inputs) : Type 0 where
+  pub sets : a.sets.items ≡ nows
+  pub many : length a.changes.items ≡ length nows
+  pub each : (n : ℕ) (d : InputChange) → n < length nows → ChangeKept (input bases n) (input tos n) (input nows n) (slice_index_or a.changes.items n d)
+
+pub record AllClosed (changes next : List InputChange) : Type 0 where
+  pub many : length next ≡ length changes
+  pub each : (i : ℕ) (d : InputChange) → i < length changes → slice_index_or next i d ≡ closed (slice_index_or changes i d)
+
+-- so many empty inputs, which never changed
+pub record AreEmpty (many : ℕ) (a : Inputs) : Type 0 where
+  pub sets : length a.sets.items ≡ many
+  pub changes : length a.changes.items ≡ many
+  pub empty_sets : (i : ℕ) (d : DataSet) → i < many → slice_index_or a.sets.items i d ≡ empty
+  pub none_changed : (i : ℕ) (d : InputChange) → i < many → ChangeKept empty empty empty (slice_index_or a.changes.items i d)

@@ -1,0 +1,25 @@
+//! The core: a production takes revisions, hands out works in rounds, and makes releases.
+//!
+//! It stands on the journals of `round_journal`, on the works of `transform_nodes`, on the judge of `revision_judge`
+//! and on the pages of `release_text`. Callers see a production as its script, its limits and its journal. Whatever
+//! calls come in whatever order from whatever callers, the journal is legal, and the latest release is the script's
+//! meaning on the inputs after its prefix: both are kept by the type. Each call says which entries it adds; a refusal
+//! says its cause, and leaves the production as it was. `claim` and `give` take no memory: `judge_one` and `open_round`
+//! set aside what they need.
+#![tactic(auto)]
+
+mod counts;
+mod ends;
+mod inputs;
+pub mod law;
+pub mod limits;
+mod machine;
+mod moves;
+pub mod production;
+mod slot;
+pub mod stops;
+
+pub use law::every_production_stands;
+pub use limits::{ENTRY_LIMIT, FIELD_LIMIT, Full, Limits};
+pub use production::Production;
+pub use stops::{ClaimStop, Given, OpenStop, SubmitStop};

@@ -1,0 +1,446 @@
+// A production's parts, and what each call makes of them.
+ghost use Rattle.std.specs.Prelude.{◌≡◌, ◌≢◌, ◌≤◌, ◌<◌, ◌+◌, ◌-◌, ◌++◌, ◌∷◌, [], ℕ, slice_index_or, slice_set, true, false, IfOk, IfSome, OnErr, Some, None, length, vec_len, vec_capacity};
+ghost use Rattle.std.specs.List.{All};
+ghost use Rattle.checked_trees.specs.Scripts.{IsChecked};
+ghost use Rattle.revision_judge.specs.Judging.{StandsForJudgement, judged};
+ghost use Rattle.round_journal.specs.Journals.{state_of, fields_of, inputs_now, IsOutBy};
+ghost use Rattle.round_journal.specs.Stands.{DoneStands};
+ghost use Rattle.round_core.specs.Answers.{told, entries_wanting, full_for, cannot_open, Claims, given_what};
+ghost use Rattle.round_core.specs.Kept.{KeptMachine, seen_of};
+ghost use Rattle.round_core.specs.Seen.{seen_with, opened};
+ghost use Rattle.round_core.specs.Slots.{ReadyIn, FirstReadyIn, EndsSo, back_with};
+ghost use Rattle.round_core.specs.declared.slot.Slot.{Slot};
+ghost use Rattle.round_core.specs.Steps.{Stays, Judges, HasRoom, IsSetAside, OpenStill, EndedSo, closed_counts};
+
+use crate::counts::Counts;
+use crate::ends::{End, end_of, first_ready};
+use crate::inputs::{InputChange, Inputs};
+use crate::limits::{ENTRY_LIMIT, FIELD_LIMIT, Full, Limits};
+use crate::moves::{collect_pages, first_pages, first_slots, hand_on, prepare};
+use crate::slot::{Slot, Stage};
+use crate::stops::{Given, OpenStop};
+use checked_trees::CheckedScript;
+use point_sets::{Delta, Revision};
+use release_text::{Pages, Release};
+use revision_judge::{Refusal, Ruling, judge};
+use round_journal::{Entry, Journal, ScriptFault, Verdict, What};
+use sqlite_items::Items;
+use std::alloc::{AllocError, Global};
+use std::mem;
+use transform_nodes::{DoneParts, Finish, Node, Work};
+
+/// The parts of a production: the script, the limits, all that happened, what it counts, the inputs, a slot for each
+/// statement, the room of the release of the open round, and the latest release.
+#[derive(Drop)]
+pub struct Machine {
+    pub script: CheckedScript,
+    pub limits: Limits,
+    pub journal: Vec<Entry>,
+    pub counts: Counts,
+    pub inputs: Inputs,
+    pub slots: Vec<Slot>,
+    pub room: Vec<Pages>,
+    pub latest: Release,
+}
+
+/// Adds an entry. There is room.
+pub fn note(journal: &mut Vec<Entry>, by: u64, what: What)
+    requires { vec_len journal.old < vec_capacity journal.old }
+    ensures items { journal.new.items ≡ journal.old.items ++ (record { by = by; what = what }) ∷ [] }
+    ensures capacity { vec_capacity journal.old ≤ vec_capacity journal.new }
+{
+    match journal.push(Entry { by, what }) {
+        Ok(()) => {}
+        Err(_) => {}
+    }
+}
+
+/// The fields of all rows of a revision, or the last number where there are more.
+fn count_fields(revision: &Revision) -> u64
+    ensures { result ≡ told (fields_of revision.now) }
+{
+    let mut count: u64 = 0;
+    let rows = revision.rows.as_slice();
+    for row in rows {
+        count = count.saturating_add(row.fields.len() as u64);
+    }
+    count
+}
+
+impl Machine {
+    /// The parts of a new production.
+    pub fn new(alloc: Global, script: CheckedScript, limits: Limits) -> Result<Machine, AllocError>
+        requires checked { IsChecked script }
+        requires entries { limits.entries ≤ ENTRY_LIMIT }
+        requires fields { limits.fields ≤ FIELD_LIMIT }
+        ensures kept { IfOk result KeptMachine }
+        ensures seen { IfOk result (λ a. seen_of a ≡ record { script = script; limits = limits; journal = [] }) }
+    {
+        let inputs = Inputs::new(alloc, script.inputs().len())?;
+        let slots = first_slots(alloc, &script)?;
+        let pages = first_pages(alloc, &script)?;
+        Ok(Machine {
+            script,
+            limits,
+            journal: Vec::new(alloc),
+            counts: Counts::new(),
+            inputs,
+            slots,
+            room: Vec::new(alloc),
+            latest: Release {
+                number: 0,
+                prefix: 0,
+                pages,
+            },
+        })
+    }
+
+    pub fn into_journal(self) -> Journal
+        ensures { result.entries ≡ self.journal.items }
+    {
+        let Machine {
+            script: _,
+            limits: _,
+            journal,
+            counts: _,
+            inputs: _,
+            slots: _,
+            room: _,
+            latest: _,
+        } = self;
+        Journal {
+            entries: Items::from_vec(journal),
+        }
+    }
+
+    /// The entries that are held, set aside and needed, where together they pass the limit.
+    fn entries_wanting(&self, aside: u64, need: u64) -> Option<Full>
+        requires held { length self.now.journal.items ≤ ENTRY_LIMIT }
+        requires aside { aside ≤ ENTRY_LIMIT }
+        requires need { need ≤ ENTRY_LIMIT }
+        ensures { result ≡ entries_wanting (seen_of self.now) aside need }
+    {
+        let held = self.journal.len() as u64;
+        if self.limits.entries < held + aside + need {
+            Some(Full::Entries { held, aside, need })
+        } else {
+            None
+        }
+    }
+
+    /// Why a revision doesn't fit, if it doesn't.
+    pub fn full_for(&self, revision: &Revision) -> Option<Full>
+        requires { KeptMachine self.now }
+        ensures { result ≡ full_for (seen_of self.now) revision.now }
+    {
+        if let Some(full) = self.entries_wanting(self.counts.aside, 1) {
+            return Some(full);
+        }
+        let held = self.counts.fields;
+        let need = count_fields(revision);
+        if self.limits.fields - held < need {
+            Some(Full::Fields { held, need })
+        } else {
+            None
+        }
+    }
+
+    /// Why a round can't be opened, if it can't but for want of memory.
+    pub fn cannot_open(&self) -> Option<OpenStop>
+        requires { KeptMachine self.now }
+        ensures { result ≡ cannot_open (seen_of self.now) }
+    {
+        let counts = &self.counts;
+        if counts.running {
+            return Some(OpenStop::Running(counts.rounds));
+        }
+        if counts.accepted == 0 || (counts.to == counts.accepted && !counts.dropped) {
+            return Some(OpenStop::NothingNew(counts.accepted));
+        }
+        let need = 2 * self.slots.len() as u64 + 2;
+        match self.entries_wanting(0, need) {
+            Some(full) => Some(OpenStop::Full(full)),
+            None => None,
+        }
+    }
+
+    /// Judges a revision that fits.
+    pub fn judge_one(&mut self, by: u64, revision: Revision) -> Result<Verdict, AllocError>
+        requires kept { KeptMachine self.old }
+        requires fits { full_for (seen_of self.old) revision ≡ None }
+        ensures ok { IfOk result (λ v. Judges self.old by revision v self.new) }
+        ensures err { OnErr result (Stays self.old self.new) }
+    {
+        let alloc = *self.journal.allocator();
+        self.journal.reserve(self.counts.aside as usize + 1)?;
+        let ruling = judge(
+            alloc,
+            self.script.inputs(),
+            self.inputs.sets.as_slice(),
+            &revision,
+        )?;
+        match ruling {
+            Ruling::Fit { set, delta } => self.accept(by, revision, set, &delta),
+            Ruling::Refused(refusal) => self.refuse(by, revision, refusal),
+        }
+    }
+
+    fn accept(
+        &mut self,
+        by: u64,
+        revision: Revision,
+        set: u64,
+        delta: &Delta,
+    ) -> Result<Verdict, AllocError>
+        requires kept { KeptMachine self.old }
+        requires room { HasRoom self.old revision }
+        requires judged { StandsForJudgement (inputs_now self.old.script (state_of self.old.journal.items)) (Ruling.Fit set delta.now) (judged self.old.script.inputs (inputs_now self.old.script (state_of self.old.journal.items)) revision) }
+        ensures ok { IfOk result (λ v. Judges self.old by revision v self.new) }
+        ensures err { OnErr result (Stays self.old self.new) }
+    {
+        self.inputs.take(set as usize, delta)?;
+        self.counts.accepted += 1;
+        self.counts.fields += count_fields(&revision);
+        let receipt = self.counts.accepted;
+        let verdict = Verdict::Accepted(receipt);
+        note(&mut self.journal, by, What::Judged { revision, verdict });
+        Ok(Verdict::Accepted(receipt))
+    }
+
+    fn refuse(
+        &mut self,
+        by: u64,
+        revision: Revision,
+        refusal: Refusal,
+    ) -> Result<Verdict, AllocError>
+        requires kept { KeptMachine self.old }
+        requires room { HasRoom self.old revision }
+        requires judged { StandsForJudgement (inputs_now self.old.script (state_of self.old.journal.items)) (Ruling.Refused refusal) (judged self.old.script.inputs (inputs_now self.old.script (state_of self.old.journal.items)) revision) }
+        ensures ok { IfOk result (λ v. Judges self.old by revision v self.new) }
+        ensures err { OnErr result (Stays self.old self.new) }
+    {
+        let alloc = *self.journal.allocator();
+        let verdict = Verdict::Refused {
+            set: revision.set.copy()?,
+            refusal: refusal.copy(alloc)?,
+        };
+        let set = revision.set.copy()?;
+        self.counts.fields += count_fields(&revision);
+        note(&mut self.journal, by, What::Judged { revision, verdict });
+        Ok(Verdict::Refused { set, refusal })
+    }
+
+    /// Sets aside what a round needs, and answers the changes of the inputs that it goes by.
+    pub fn set_aside(&mut self) -> Result<Vec<InputChange>, AllocError>
+        requires kept { KeptMachine self.old }
+        requires closed { self.old.counts.running ≡ false }
+        ensures stays { Stays self.old self.new }
+        ensures ready { IfOk result (λ changes. IsSetAside changes.items self.new) }
+    {
+        let alloc = *self.journal.allocator();
+        self.journal.reserve(2 * self.slots.len() + 2)?;
+        self.room.reserve(self.slots.len())?;
+        let changes = self.inputs.carried()?;
+        prepare(alloc, &mut self.slots, changes.as_slice())?;
+        Ok(changes)
+    }
+
+    /// Opens a round for which all is set aside.
+    pub fn open(&mut self, by: u64, changes: Vec<InputChange>) -> u64
+        requires kept { KeptMachine self.old }
+        requires ready { IsSetAside changes.items self.old }
+        requires opens { cannot_open (seen_of self.old) ≡ None }
+        ensures kept { KeptMachine self.new }
+        ensures seen { seen_of self.new ≡ opened (seen_of self.old) by }
+        ensures number { result ≡ (state_of self.old.journal.items).rounds + 1 }
+    {
+        self.inputs.changes = changes;
+        let round = self.counts.rounds + 1;
+        let accepted = self.counts.accepted;
+        self.counts.rounds = round;
+        self.counts.running = true;
+        self.counts.dropped = false;
+        self.counts.spoiled = false;
+        self.counts.to = accepted;
+        self.counts.aside = 2 * self.slots.len() as u64 + 1;
+        note(&mut self.journal, by, What::Opened { to: accepted });
+        if self.slots.is_empty() {
+            let _ = self.publish(by);
+        }
+        round
+    }
+
+    /// The first statement in the script's order that is ready.
+    pub fn next_ready(&self) -> Option<u64>
+        requires { KeptMachine self.now }
+        ensures found { IfSome result (FirstReadyIn self.now.slots.items self.now.script.order) }
+        ensures none { result ≡ None → All (λ i. ¬ (ReadyIn self.now.slots.items i)) self.now.script.order }
+    {
+        first_ready(self.slots.as_slice(), self.script.order())
+    }
+
+    /// Hands out the work of the first statement that is ready.
+    pub fn hand_out(&mut self, by: u64, i: u64) -> Work
+        requires kept { KeptMachine self.old }
+        requires running { self.old.counts.running ≡ true }
+        requires first { FirstReadyIn self.old.slots.items self.old.script.order i }
+        ensures kept { KeptMachine self.new }
+        ensures claims { Claims (seen_of self.old) by result (seen_of self.new) }
+        ensures which { result.statement ≡ i }
+    {
+        let alloc = *self.journal.allocator();
+        let slot = &mut self.slots[i as usize];
+        let (settle, news, node) = slot.hand_out(alloc, self.counts.published);
+        self.counts.aside -= 1;
+        note(&mut self.journal, by, What::Claimed { statement: i });
+        Work {
+            round: self.counts.rounds,
+            statement: i,
+            base: self.counts.base,
+            to: self.counts.to,
+            settle,
+            news,
+            node,
+        }
+    }
+
+    /// Takes a work back. The round may be over then, and is not ended.
+    pub fn take_back(&mut self, by: u64, done: DoneParts)
+        requires kept { KeptMachine self.old }
+        requires out { IsOutBy self.old.script (state_of self.old.journal.items) by done.statement }
+        requires stands { DoneStands self.old.script (state_of self.old.journal.items) done }
+        ensures still { OpenStill self.new by }
+        ensures seen { seen_of self.new ≡ seen_with (seen_of self.old) by (given_what done.finish done.statement) }
+    {
+        let DoneParts {
+            statement,
+            node,
+            finish,
+            ..
+        } = done;
+        match finish {
+            Finish::Right {
+                deltas,
+                points,
+                pages,
+            } => {
+                hand_on(&mut self.slots, statement, deltas);
+                let stage = Stage::Right { points, pages };
+                self.put(by, What::Returned { statement }, statement, node, stage);
+            }
+            Finish::Fault { kept, told } => {
+                let stage = Stage::Wrong { kept, told };
+                self.put(by, What::Returned { statement }, statement, node, stage);
+            }
+            Finish::GaveUp => {
+                self.counts.spoiled = true;
+                let stage = Stage::Spoiled;
+                self.put(by, What::GaveUp { statement }, statement, node, stage);
+            }
+        }
+    }
+
+    /// Puts a statement back, and notes the entry.
+    fn put(&mut self, by: u64, what: What, statement: u64, node: Node, stage: Stage)
+        requires below { statement < length self.old.slots.items }
+        requires aside { 1 ≤ self.old.counts.aside }
+        requires room { vec_len self.old.journal < vec_capacity self.old.journal }
+        ensures rest { self.new ≡ record self.old { journal = self.new.journal; slots = self.new.slots; counts = record self.old.counts { aside = self.old.counts.aside - 1 } } }
+        ensures slots { (slot : Slot) × (slot ≡ slice_index_or self.old.slots.items statement slot) × (self.new.slots.items ≡ slice_set self.old.slots.items statement (back_with self.old.counts.rounds node stage slot)) }
+        ensures items { self.new.journal.items ≡ self.old.journal.items ++ (record { by = by; what = what }) ∷ [] }
+        ensures capacity { vec_capacity self.old.journal ≤ vec_capacity self.new.journal }
+    {
+        let round = self.counts.rounds;
+        let slot = &mut self.slots[statement as usize];
+        slot.put(round, node, stage);
+        self.counts.aside -= 1;
+        note(&mut self.journal, by, what);
+    }
+
+    /// Ends the round where it is over.
+    pub fn end_round(&mut self, by: u64) -> Given
+        requires { OpenStill self.old by }
+        ensures kept { KeptMachine self.new }
+        ensures ends { EndedSo (seen_of self.old) by result (seen_of self.new) }
+    {
+        let to = self.counts.to;
+        match end_of(self.slots.as_slice(), self.counts.spoiled) {
+            End::GoesOn => Given::Counted,
+            End::Dropped => {
+                self.counts.dropped = true;
+                self.close(by, What::Dropped { to });
+                Given::Dropped
+            }
+            End::Fault(i) => self.fail(by, i),
+            End::Total(points) => {
+                let fault = ScriptFault::Total(points);
+                self.close(by, What::Failed { to, fault });
+                Given::Failed(ScriptFault::Total(points))
+            }
+            End::Published => Given::Published(self.publish(by)),
+        }
+    }
+
+    /// Ends a round with an entry that makes no release.
+    fn close(&mut self, by: u64, what: What)
+        requires { vec_len self.old.journal < vec_capacity self.old.journal }
+        ensures rest { self.new ≡ record self.old { journal = self.new.journal; counts = closed_counts self.old.counts } }
+        ensures items { self.new.journal.items ≡ self.old.journal.items ++ (record { by = by; what = what }) ∷ [] }
+        ensures capacity { vec_capacity self.old.journal ≤ vec_capacity self.new.journal }
+    {
+        self.counts.running = false;
+        self.counts.aside = 0;
+        note(&mut self.journal, by, what);
+    }
+
+    /// Ends a round with the fault of a statement.
+    fn fail(&mut self, by: u64, i: usize) -> Given
+        requires still { OpenStill self.old by }
+        requires over { EndsSo self.old.slots.items self.old.counts.spoiled (End.Fault i) }
+        ensures kept { KeptMachine self.new }
+        ensures ends { EndedSo (seen_of self.old) by result (seen_of self.new) }
+    {
+        let to = self.counts.to;
+        let slot = &mut self.slots[i];
+        let stage = mem::replace(&mut slot.stage, Stage::Spoiled);
+        match stage {
+            Stage::Wrong { kept, told } => {
+                let statement = i as u64;
+                let fault = ScriptFault::At {
+                    statement,
+                    fault: kept,
+                };
+                self.close(by, What::Failed { to, fault });
+                Given::Failed(ScriptFault::At {
+                    statement,
+                    fault: told,
+                })
+            }
+            _ => unreachable!(),
+        }
+    }
+
+    /// Ends a round with its release, and answers the release's number.
+    fn publish(&mut self, by: u64) -> u64
+        requires still { OpenStill self.old by }
+        requires over { EndsSo self.old.slots.items self.old.counts.spoiled End.Published }
+        ensures kept { KeptMachine self.new }
+        ensures ends { EndedSo (seen_of self.old) by (Given.Published result) (seen_of self.new) }
+    {
+        let to = self.counts.to;
+        let alloc = *self.journal.allocator();
+        collect_pages(&mut self.slots, &mut self.room);
+        let pages = mem::replace(&mut self.room, Vec::new(alloc));
+        let number = self.latest.number + 1;
+        self.latest = Release {
+            number,
+            prefix: to,
+            pages: Items::from_vec(pages),
+        };
+        self.inputs.close();
+        self.counts.published = self.counts.rounds;
+        self.counts.base = to;
+        self.close(by, What::Published { to });
+        number
+    }
+}

@@ -1,0 +1,61 @@
+// What calls of a production answer.
+
+use crate::limits::Full;
+use round_journal::ScriptFault;
+use std::alloc::AllocError;
+
+/// Why a revision was not judged.
+#[derive(Debug, Drop)]
+pub enum SubmitStop {
+    /// It doesn't fit any more.
+    Full(Full),
+    /// Memory was wanting.
+    Memory,
+}
+
+impl From<AllocError> for SubmitStop {
+    fn from(_: AllocError) -> SubmitStop {
+        SubmitStop::Memory
+    }
+}
+
+/// Why a round was not opened.
+#[derive(Debug, Drop)]
+pub enum OpenStop {
+    /// The round with this number is open.
+    Running(u64),
+    /// No revision was accepted yet, or the last round had all of so many and wasn't dropped.
+    NothingNew(u64),
+    /// Its entries don't fit any more.
+    Full(Full),
+    /// Memory was wanting.
+    Memory,
+}
+
+impl From<AllocError> for OpenStop {
+    fn from(_: AllocError) -> OpenStop {
+        OpenStop::Memory
+    }
+}
+
+/// Why no statement was handed out.
+#[derive(Debug, Drop)]
+pub enum ClaimStop {
+    /// No round is open. There were so many so far.
+    NoRound(u64),
+    /// No statement is ready, and so many are out.
+    NoneReady { out: u64 },
+}
+
+/// What giving a work back came to.
+#[derive(Debug, Drop)]
+pub enum Given {
+    /// The round goes on.
+    Counted,
+    /// The round ended with the release of this number.
+    Published(u64),
+    /// The round ended with the script's fault.
+    Failed(ScriptFault),
+    /// The round ended without a release, since a statement of it was given up.
+    Dropped,
+}

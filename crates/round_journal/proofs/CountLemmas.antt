@@ -1,0 +1,153 @@
+-- What journals count.
+use Rattle.std.proofs.Common.{◌≡◌, ◌≢◌, ◌≤◌, ◌<◌, ◌+◌, ◌-◌, ◌*◌, ℕ, suc, zero, true, false, List, [], ◌∷◌, length, sym, ◌∙◌, ap, refl, arith, inl, inr, subst, length-append}
+use Rattle.std.proofs.lemmas.Bool.{cases_eq}
+use Rattle.point_sets.specs.declared.revision.Revision.{Revision}
+use Rattle.checked_trees.specs.Scripts.{Script}
+use Rattle.operator_meaning.specs.Scripts.{with_at}
+use Rattle.operator_meaning.proofs.ScriptLemmas.{with_at-same, with_at-other}
+use Rattle.round_journal.specs.declared.entry.Entry.{Entry}
+use Rattle.round_journal.specs.declared.entry.What.{What}
+use Rattle.round_journal.specs.declared.entry.What.TheVariants.{Judged, Opened, Claimed, Returned, GaveUp, Published, Failed, Dropped}
+use Rattle.round_journal.specs.declared.verdict.Verdict.{Verdict}
+use Rattle.round_journal.specs.declared.verdict.Verdict.TheVariants.{Accepted, Refused}
+use Rattle.round_journal.specs.Journals.{State, Status, Waiting, Out, Back, Spoiled, start, accepted_after, after, after_what, after_all, state_of, round_need, aside, Ready, IsOutBy, MayCome, Legal}
+use Rattle.round_journal.specs.Ends.{NoneSpoiled}
+use Rattle.round_journal.specs.Counts.{CountsWithin, RoundsInOrder, entries_of, entries_below, IsOfStatement}
+use Rattle.round_journal.proofs.JournalLemmas.{of_legal}
+
+-- ---- numbers of entries
+
+accepted_after-few : (rs : List Revision) (r : Revision) (v : Verdict) → length (accepted_after rs r v) ≤ length rs + 1
+accepted_after-few rs r (Accepted n) = omega (arith, length-append rs (r ∷ []))
+accepted_after-few rs r (Refused set refusal) = omega arith
+
+CountsWithin-more : (s : State) (m n : ℕ) (w : What) → CountsWithin s m → CountsWithin (after_what s n w) (m + 1)
+CountsWithin-more s m n (Judged r v) h = record { accepted = omega (arith, accepted_after-few s.accepted r v, h.accepted); rounds = omega (arith, h.rounds); number = omega (arith, h.number) }
+CountsWithin-more s m n w h = record { accepted = omega (arith, h.accepted); rounds = omega (arith, h.rounds); number = omega (arith, h.number) }
+
+CountsWithin-all : (s : State) (m : ℕ) (es : List Entry) → CountsWithin s m → CountsWithin (after_all s es) (m + length es)
+CountsWithin-all s m [] h = record { accepted = omega (arith, h.accepted); rounds = omega (arith, h.rounds); number = omega (arith, h.number) }
+CountsWithin-all s m (e ∷ es) h =
+    let rest = CountsWithin-all (after s e) (m + 1) es (CountsWithin-more s m e.by e.what h) in
+    record { accepted = omega (arith, rest.accepted); rounds = omega (arith, rest.rounds); number = omega (arith, rest.number) }
+
+pub CountsWithin-journal : (j : List Entry) → CountsWithin (state_of j) (length j)
+CountsWithin-journal j =
+    let all = CountsWithin-all start 0 j (record { accepted = omega arith; rounds = omega arith; number = omega arith }) in
+    record { accepted = omega (arith, all.accepted); rounds = omega (arith, all.rounds); number = omega (arith, all.number) }
+
+-- ---- rounds
+
+RoundsInOrder-keeps : (c : Script) (s : State) (n : ℕ) (w : What) → MayCome c s n w → RoundsInOrder s → RoundsInOrder (after_what s n w)
+RoundsInOrder-keeps c s n (Opened to) may h = record { earlier = omega (arith, h.earlier); before_open = λ _. omega (arith, h.earlier) }
+RoundsInOrder-keeps c s n (Published to) may h = record { earlier = omega arith; before_open = λ e. absurd (cc e) }
+RoundsInOrder-keeps c s n (Failed to fault) may h = record { earlier = h.earlier; before_open = λ e. absurd (cc e) }
+RoundsInOrder-keeps c s n (Dropped to) may h = record { earlier = h.earlier; before_open = λ e. absurd (cc e) }
+RoundsInOrder-keeps c s n w may h = record { earlier = h.earlier; before_open = h.before_open }
+
+pub RoundsInOrder-legal : (c : Script) (j : List Entry) → Legal c j → RoundsInOrder (state_of j)
+RoundsInOrder-legal c = of_legal c RoundsInOrder (λ s e. RoundsInOrder-keeps c s e.by e.what) (record { earlier = omega arith; before_open = λ e. absurd (cc e) })
+
+-- ---- entries of an open round
+
+pub entries_below-none : (n : ℕ) → entries_below n (λ _. Waiting) ≡ 0
+entries_below-none zero = refl
+entries_below-none (suc n) = omega (arith, entries_below-none n)
+
+-- one statement's entries more or less
+entries_below-beyond : (n i : ℕ) (x : Status) (f : ℕ → Status) → n ≤ i → entries_below n (with_at i x f) ≡ entries_below n f
+entries_below-beyond zero i x f l = refl
+entries_below-beyond (suc n) i x f l =
+    ap (λ m. m + entries_of (with_at i x f n)) (entries_below-beyond n i x f (omega arith)) ∙ ap (λ y. entries_below n f + entries_of y) (with_at-other i x f n (λ e. omega (arith, e)))
+
+pub entries_below-with_at : (n i : ℕ) (x : Status) (f : ℕ → Status) → i < n → entries_below n (with_at i x f) + entries_of (f i) ≡ entries_below n f + entries_of x
+entries_below-with_at zero i x f l = absurd (omega arith)
+entries_below-with_at (suc n) i x f l = elim (cases_eq n i) [
+  | inl same ↦
+      let before = entries_below-beyond n i x f (omega (arith, same)) in
+      let here : with_at i x f n ≡ x = subst (λ m. with_at i x f m ≡ x) (sym same) (with_at-same i x f) in
+      omega (arith, before, ap entries_of here, ap (λ m. entries_of (f m)) same)
+  | inr other ↦
+      let before = entries_below-with_at n i x f (omega (arith, other)) in
+      let here = with_at-other i x f n (λ e. other (sym e)) in
+      omega (arith, before, ap entries_of here)
+]
+
+entries_of-few : (x : Status) → entries_of x ≤ 2
+entries_of-few Waiting = omega arith
+entries_of-few (Out n) = omega arith
+entries_of-few Back = omega arith
+entries_of-few Spoiled = omega arith
+
+pub entries_below-few : (n : ℕ) (f : ℕ → Status) → entries_below n f ≤ 2 * n
+entries_below-few zero f = omega arith
+entries_below-few (suc n) f = omega (arith, entries_below-few n f, entries_of-few (f n))
+
+-- what a statement had not yet is left
+pub entries_below-left : (n i : ℕ) (f : ℕ → Status) → i < n → entries_below n f + 2 ≤ 2 * n + entries_of (f i)
+entries_below-left zero i f l = absurd (omega arith)
+entries_below-left (suc n) i f l = elim (cases_eq n i) [
+  | inl same ↦ omega (arith, entries_below-few n f, ap (λ m. entries_of (f m)) same)
+  | inr other ↦ omega (arith, entries_below-left n i f (omega (arith, other)), entries_of-few (f n))
+]
+
+-- an open round's entries are its own and those of its statements
+abbrev pub IsSpent : Script → State → Type 0
+IsSpent c s = s.running ≡ true → s.spent ≡ 1 + entries_below (length c.statements) s.status
+
+IsSpent-keeps : (c : Script) (s : State) (n : ℕ) (w : What) → MayCome c s n w → IsSpent c s → IsSpent c (after_what s n w)
+IsSpent-keeps c s n (Judged r v) may h = h
+IsSpent-keeps c s n (Opened to) may h = λ _. omega (arith, entries_below-none (length c.statements))
+IsSpent-keeps c s n (Claimed i) may h = λ run.
+    let ready = may.1.ready in
+    omega (arith, h run, entries_below-with_at (length c.statements) i (Out n) s.status ready.below, ap entries_of ready.waits)
+IsSpent-keeps c s n (Returned i) may h = λ run. omega (arith, h run, entries_below-with_at (length c.statements) i Back s.status may.below, ap entries_of may.out)
+IsSpent-keeps c s n (GaveUp i) may h = λ run. omega (arith, h run, entries_below-with_at (length c.statements) i Spoiled s.status may.below, ap entries_of may.out)
+IsSpent-keeps c s n w may h = λ e. absurd (cc e)
+
+pub IsSpent-legal : (c : Script) (j : List Entry) → Legal c j → IsSpent c (state_of j)
+IsSpent-legal c = of_legal c (IsSpent c) (λ s e. IsSpent-keeps c s e.by e.what) (λ e. absurd (cc e))
+
+-- ---- the entries that are set aside
+
+pub aside-open : (c : Script) (s : State) → s.running ≡ true → aside c s ≡ round_need c - s.spent
+aside-open c s run = rw run refl
+
+pub aside-whole : (c : Script) (s : State) → s.running ≡ true → IsSpent c s → aside c s + s.spent ≡ round_need c
+aside-whole c s run h = omega (arith, aside-open c s run, h run, entries_below-few (length c.statements) s.status)
+
+pub aside-end : (c : Script) (s : State) → s.running ≡ true → IsSpent c s → 1 ≤ aside c s
+aside-end c s run h = omega (arith, aside-open c s run, h run, entries_below-few (length c.statements) s.status)
+
+pub aside-out : (c : Script) (s : State) (n i : ℕ) → IsOutBy c s n i → IsSpent c s → 2 ≤ aside c s
+aside-out c s n i out h = omega (arith, aside-open c s out.open_round, h out.open_round, entries_below-left (length c.statements) i s.status out.below, ap entries_of out.out)
+
+pub aside-ready : (c : Script) (s : State) (i : ℕ) → s.running ≡ true → Ready c s i → IsSpent c s → 3 ≤ aside c s
+aside-ready c s i run ready h = omega (arith, aside-open c s run, h run, entries_below-left (length c.statements) i s.status ready.below, ap entries_of ready.waits)
+
+pub aside-less : (c : Script) (s : State) (n : ℕ) (w : What) → IsOfStatement w → s.running ≡ true → aside c (after_what s n w) ≡ aside c s - 1
+aside-less c s n (Claimed i) h run = rw run (omega arith)
+aside-less c s n (Returned i) h run = rw run (omega arith)
+aside-less c s n (GaveUp i) h run = rw run (omega arith)
+aside-less c s n w h run = absurd h
+
+-- ---- statements that were given up
+
+abbrev pub IsUnspoiled : Script → State → Type 0
+IsUnspoiled c s = s.spoiled ≡ false → NoneSpoiled c s
+
+with_at-unspoiled : (c : Script) (s : State) (i : ℕ) (x : Status) → x ≢ Spoiled → NoneSpoiled c s → (k : ℕ) → k < length c.statements → with_at i x s.status k ≢ Spoiled
+with_at-unspoiled c s i x fine h k l e = elim (cases_eq k i) [
+  | inl same ↦ fine (sym (subst (λ m. with_at i x s.status m ≡ x) (sym same) (with_at-same i x s.status)) ∙ e)
+  | inr other ↦ h k l (sym (with_at-other i x s.status k (λ q. other (sym q))) ∙ e)
+]
+
+IsUnspoiled-keeps : (c : Script) (s : State) (n : ℕ) (w : What) → MayCome c s n w → IsUnspoiled c s → IsUnspoiled c (after_what s n w)
+IsUnspoiled-keeps c s n (Opened to) may h = λ _ k l e. cc e
+IsUnspoiled-keeps c s n (Claimed i) may h = λ clean. with_at-unspoiled c s i (Out n) (λ e. cc e) (h clean)
+IsUnspoiled-keeps c s n (Returned i) may h = λ clean. with_at-unspoiled c s i Back (λ e. cc e) (h clean)
+IsUnspoiled-keeps c s n (GaveUp i) may h = λ clean. absurd (cc clean)
+IsUnspoiled-keeps c s n w may h = h
+
+pub IsUnspoiled-legal : (c : Script) (j : List Entry) → Legal c j → IsUnspoiled c (state_of j)
+IsUnspoiled-legal c = of_legal c (IsUnspoiled c) (λ s e. IsUnspoiled-keeps c s e.by e.what) (λ _ k l e. cc e)

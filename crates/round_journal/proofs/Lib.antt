@@ -1,0 +1,9 @@
+pub mod JournalLemmas
+pub mod InputLemmas
+pub mod CountLemmas
+pub mod StandLemmas
+pub mod ReleaseLemmas
+pub mod ScriptLemmas
+pub mod ReadyLemmas
+pub mod EndLemmas
+pub mod BoundLemmas

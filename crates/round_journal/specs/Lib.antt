@@ -1,0 +1,5 @@
+pub mod Journals
+pub mod Stands
+pub mod Releases
+pub mod Ends
+pub mod Counts
