@@ -10,7 +10,7 @@ use Rattle.vtl_tokens.specs.declared.keyword.TheConstants.Keyword.{ALL}
 use Rattle.vtl_tokens.specs.Keywords.{word_of, keyword_of}
 
 -- what a search finds passes its test
-find_passes : {X : Type 0} (test : X → Bool) (xs : List X) (x : X) → find test xs ≡ Some x → test x ≡ true
+pub find_passes : {X : Type 0} (test : X → Bool) (xs : List X) (x : X) → find test xs ≡ Some x → test x ≡ true
 find_passes test [] x found = cc
 find_passes {X} test (y ∷ ys) x found = by (test y) refl found (find_passes test ys x)
   where
@@ -19,7 +19,9 @@ find_passes {X} test (y ∷ ys) x found = by (test y) refl found (find_passes te
     by false fails found later = later found
 
 pub written_word_is_found : (word : Keyword) → keyword_of (word_of word) ≡ Some word
+unfolding keyword_of
 written_word_is_found word = elim word as (λ w. keyword_of (word_of w) ≡ Some w) [ Define ↦ refl | _ ↦ refl ]
 
 pub found_word_is_written : (text : List ℕ) (word : Keyword) → keyword_of text ≡ Some word → text ≡ word_of word
+unfolding keyword_of
 found_word_is_written text word found = sym ((slice_eq-Decides Decides-eqb (word_of word) text (pointwise nat_eq (word_of word) text) refl).0 (find_passes (λ w. pointwise nat_eq (word_of w) text) ALL word found))

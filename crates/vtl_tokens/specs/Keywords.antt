@@ -146,7 +146,7 @@ word_of Identifier = codes "identifier"
 word_of Operator = codes "operator"
 
 -- the reserved word that is written so
-abbrev pub keyword_of : List ℕ → Option Keyword
+unfoldable pub keyword_of : List ℕ → Option Keyword
 keyword_of text = find (λ word. pointwise nat_eq (word_of word) text) ALL
 
 -- a word of the whole language that this profile leaves out

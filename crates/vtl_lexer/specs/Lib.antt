@@ -1,0 +1,7 @@
+pub mod Starts
+pub mod Scans
+pub mod Literals
+pub mod Pieces
+pub mod Places
+pub mod Texts
+pub mod Answers
