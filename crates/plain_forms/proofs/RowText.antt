@@ -16,15 +16,15 @@ use Rattle.plain_forms.proofs.Bytes.{and-left, and-right}
 
 -- the row that an action, a key and a number make
 row_from : List ℕ → List ℕ → List ℕ → Option Row
-row_from action key number = if bytes_eq action (codes "put") && is_key key then option_map (λ n. record { key = key; number = n }) (number_of_text number) else None
+row_from action key number = if bytes_eq action (codes "put") && is_key key then option_map (λ n. record { key = key; number = n; written = number }) (number_of_text number) else None
 
 row_of-parts : (line : List ℕ) → row_of line ≡ row_from (before_first is_comma line) (before_first is_comma (after_first is_comma line)) (after_first is_comma (after_first is_comma line))
 unfolding row_from
 row_of-parts line = refl
 
-row_from-row : (row : Row) (number : List ℕ) → is_key row.key ≡ true → number_of_text number ≡ Some row.number → row_from (codes "put") row.key number ≡ Some row
+row_from-row : (row : Row) → is_key row.key ≡ true → number_of_text row.written ≡ Some row.number → row_from (codes "put") row.key row.written ≡ Some row
 unfolding row_from
-row_from-row row number k m = rw (k, m) refl
+row_from-row row k m = rw (k, m) refl
 
 no_comma : (b : ℕ) → is_key_byte b ≡ true → is_comma b ≡ false
 no_comma b h =
@@ -56,15 +56,15 @@ key_bytes key h = and-right _ _ (and-right _ _ h)
 -- a row is read from its line
 pub row_of-line : (line : List ℕ) (row : Row) → IsRowLine line row → row_of line ≡ Some row
 row_of-line line row h =
-    let fields : List ℕ = row.key ++ COMMA ∷ h.number in
+    let fields : List ℕ = row.key ++ COMMA ∷ row.written in
     let action : before_first is_comma line ≡ codes "put" = ap (before_first is_comma) h.spelled ∙ before (codes "put") fields refl in
     let rest : after_first is_comma line ≡ fields = ap (after_first is_comma) h.spelled ∙ after (codes "put") fields refl in
-    let key : before_first is_comma (after_first is_comma line) ≡ row.key = ap (before_first is_comma) rest ∙ before row.key h.number (key_bytes row.key h.key) in
-    let number : after_first is_comma (after_first is_comma line) ≡ h.number = ap (after_first is_comma) rest ∙ after row.key h.number (key_bytes row.key h.key) in
+    let key : before_first is_comma (after_first is_comma line) ≡ row.key = ap (before_first is_comma) rest ∙ before row.key row.written (key_bytes row.key h.key) in
+    let number : after_first is_comma (after_first is_comma line) ≡ row.written = ap (after_first is_comma) rest ∙ after row.key row.written (key_bytes row.key h.key) in
     row_of-parts line
     ∙ (ap (λ x. row_from x (before_first is_comma (after_first is_comma line)) (after_first is_comma (after_first is_comma line))) action
     ∙ (ap (λ x. row_from (codes "put") x (after_first is_comma (after_first is_comma line))) key
-    ∙ (ap (λ x. row_from (codes "put") row.key x) number ∙ row_from-row row h.number h.key h.meaning)))
+    ∙ (ap (λ x. row_from (codes "put") row.key x) number ∙ row_from-row row h.key h.meaning)))
 
 if_some : {X : Type 0} (b : Bool) (o : Option X) (x : X) → (if b then o else None) ≡ Some x → (b ≡ true) × (o ≡ Some x)
 if_some true o x h = (refl, h)
@@ -94,12 +94,12 @@ some_key (c ∷ text) h = omega arith
 pub IsRowLine-row_of : (line : List ℕ) (row : Row) → row_of line ≡ Some row → IsRowLine line row
 IsRowLine-row_of line row h =
     let fields : List ℕ = after_first is_comma line in
-    let p = if_some (bytes_eq (before_first is_comma line) (codes "put") && is_key (before_first is_comma fields)) (option_map (λ n. record { key = before_first is_comma fields; number = n }) (number_of_text (after_first is_comma fields))) row h in
+    let p = if_some (bytes_eq (before_first is_comma line) (codes "put") && is_key (before_first is_comma fields)) (option_map (λ n. record { key = before_first is_comma fields; number = n; written = after_first is_comma fields }) (number_of_text (after_first is_comma fields))) row h in
     let k : is_key (before_first is_comma fields) ≡ true = and-right _ _ p.0 in
     let a : before_first is_comma line ≡ codes "put" = (bytes_eq-Decides (before_first is_comma line) (codes "put")).0 (and-left _ _ p.0) in
-    let m = map_some (λ n. record { key = before_first is_comma fields; number = n }) (number_of_text (after_first is_comma fields)) row p.1 in
+    let m = map_some (λ n. record { key = before_first is_comma fields; number = n; written = after_first is_comma fields }) (number_of_text (after_first is_comma fields)) row p.1 in
     let inner : fields ≡ before_first is_comma fields ++ COMMA ∷ after_first is_comma fields = joined fields (some_number (after_first is_comma fields) m.0 m.1) in
     let outer : line ≡ before_first is_comma line ++ COMMA ∷ fields = joined line (some_key fields k) in
     let spelled : line ≡ codes "put" ++ COMMA ∷ (before_first is_comma fields ++ COMMA ∷ after_first is_comma fields) = outer ∙ (ap (λ x. x ++ COMMA ∷ fields) a ∙ ap (λ x. codes "put" ++ COMMA ∷ x) inner) in
-    let whole : IsRowLine line (record { key = before_first is_comma fields; number = m.0 }) = record { number = after_first is_comma fields; spelled = spelled; key = k; meaning = m.1 } in
+    let whole : IsRowLine line (record { key = before_first is_comma fields; number = m.0; written = after_first is_comma fields }) = record { spelled = spelled; key = k; meaning = m.1 } in
     subst (IsRowLine line) m.2 whole

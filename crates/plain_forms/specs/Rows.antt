@@ -51,8 +51,9 @@ abbrev pub row_of : List ℕ → Option Row
 row_of line =
     let fields = after_first is_comma line in
     let key = before_first is_comma fields in
+    let written = after_first is_comma fields in
     if bytes_eq (before_first is_comma line) (codes "put") && is_key key
-    then option_map (λ number. record { key = key; number = number }) (number_of_text (after_first is_comma fields))
+    then option_map (λ number. record { key = key; number = number; written = written }) (number_of_text written)
     else None
 
 -- the answer for each, where there is one for each

@@ -1,12 +1,15 @@
 // The blocks of a plain feed.
-ghost use Rattle.std.specs.Prelude.{◌≡◌, IfOk, Some, None, Err};
+ghost use Rattle.std.specs.Prelude.{◌≡◌, map, IfOk, Some, None, Err, chars};
 ghost use Rattle.plain_forms.specs.Lines.{shown};
 ghost use Rattle.plain_forms.specs.Feeds.{input_of, block_of};
+ghost use Rattle.plain_forms.specs.Revisions.{name_of, raw_row_of, revision_of};
 
 use crate::row::{Row, keys_differ, read_rows};
 use crate::stop::PlainStop;
+use point_sets::{Action, RawField, RawRow, Revision};
 use sqlite_items::Items;
-use std::alloc::Global;
+use std::alloc::{AllocError, Global};
+use vtl_values::Word;
 
 const COLUMNS: &[u8] = b":action,Id,Me";
 
@@ -15,6 +18,18 @@ const COLUMNS: &[u8] = b":action,Id,Me";
 pub enum Input {
     A,
     B,
+}
+
+impl Input {
+    /// The name of the data set.
+    pub fn name(self) -> &'static str
+        ensures { chars result.now ≡ name_of self }
+    {
+        match self {
+            Input::A => "A",
+            Input::B => "B",
+        }
+    }
 }
 
 /// One revision: the rows that it puts into an input. Their keys differ.
@@ -54,4 +69,47 @@ fn read_input(line: &[u8]) -> Option<Input>
         b"@B" => Some(Input::B),
         _ => None,
     }
+}
+
+/// The revisions of the blocks, with keys and numbers as they were written.
+pub fn revisions(alloc: Global, blocks: &[Block]) -> Result<Vec<Revision>, AllocError>
+    ensures { IfOk result (λ revisions. revisions.items ≡ map revision_of blocks.now) }
+{
+    let mut revisions = Vec::new(alloc);
+    for block in blocks {
+        revisions.push(revision(alloc, block)?)?;
+    }
+    Ok(revisions)
+}
+
+fn revision(alloc: Global, block: &Block) -> Result<Revision, AllocError>
+    ensures { IfOk result (λ revision. revision ≡ revision_of block.now) }
+{
+    Ok(Revision {
+        set: Word::from_str(alloc, block.input.name())?,
+        rows: raw_rows(alloc, block.rows.as_slice())?,
+    })
+}
+
+fn raw_rows(alloc: Global, rows: &[Row]) -> Result<Items<RawRow>, AllocError>
+    ensures { IfOk result (λ raw. raw ≡ map raw_row_of rows.now) }
+{
+    let mut raw = Vec::new(alloc);
+    for row in rows {
+        raw.push(raw_row(alloc, row)?)?;
+    }
+    Ok(Items::from_vec(raw))
+}
+
+// The row that puts the point of this one.
+fn raw_row(alloc: Global, row: &Row) -> Result<RawRow, AllocError>
+    ensures { IfOk result (λ raw. raw ≡ raw_row_of row.now) }
+{
+    let mut fields = Vec::new(alloc);
+    fields.push(RawField::Given(row.key.copy()?))?;
+    fields.push(RawField::Given(row.written.copy()?))?;
+    Ok(RawRow {
+        action: Action::Put,
+        fields: Items::from_vec(fields),
+    })
 }

@@ -2,7 +2,9 @@
 ghost use Rattle.std.specs.Prelude.{◌≡◌, ℕ, true, false, map, MatchOption, IfOk, Some, None, Err, chars};
 ghost use Rattle.std.specs.List.{before_first, after_first, list_all};
 ghost use Rattle.plain_forms.specs.Lines.{shown};
-ghost use Rattle.plain_forms.specs.Rows.{is_comma, is_key_byte, is_key, is_ascii_text, number_of_text, row_of, all_of, all_differ};
+ghost use Rattle.plain_forms.specs.Rows.{is_comma, is_key_byte, is_key, is_ascii_text, number_in, row_of, all_of, all_differ};
+ghost use Rattle.vtl_values.specs.declared.kind.Kind.TheVariants.{Number as NumberKind};
+ghost use Rattle.vtl_values.specs.Texts.{value_of};
 
 use crate::stop::PlainStop;
 use std::alloc::{AllocError, Global};
@@ -13,11 +15,12 @@ const PUT: &[u8] = b"put";
 
 const MOST_KEY: usize = 64;
 
-/// A point to put: the text that is its key, and its number.
+/// A point to put: the text that is its key, its number, and the number as it stood in the feed.
 #[derive(Debug, Drop)]
 pub struct Row {
     pub key: Word,
     pub number: Decimal,
+    pub written: Word,
 }
 
 /// The rows of the lines, each of which has to be a row.
@@ -42,9 +45,11 @@ fn read_row(alloc: Global, line: &[u8]) -> Result<Row, PlainStop>
         return Err(PlainStop::NotPlain);
     }
     let key = key_text(key).ok_or(PlainStop::NotPlain)?;
+    let written = ascii_text(number).ok_or(PlainStop::NotPlain)?;
     Ok(Row {
-        number: read_number(alloc, number)?,
+        number: read_number(alloc, written)?,
         key: Word::from_str(alloc, key)?,
+        written: Word::from_str(alloc, written)?,
     })
 }
 
@@ -89,11 +94,10 @@ fn ascii_text(bytes: &[u8]) -> Option<&str>
     }
 }
 
-fn read_number(alloc: Global, number: &[u8]) -> Result<Decimal, PlainStop>
-    ensures number { IfOk result (λ decimal. number_of_text number.now ≡ Some decimal) }
-    ensures not_plain { result ≡ Err PlainStop.NotPlain → number_of_text number.now ≡ None }
+fn read_number(alloc: Global, text: &str) -> Result<Decimal, PlainStop>
+    ensures number { IfOk result (λ decimal. number_in (value_of NumberKind (chars text.now)) ≡ Some decimal) }
+    ensures not_plain { result ≡ Err PlainStop.NotPlain → number_in (value_of NumberKind (chars text.now)) ≡ None }
 {
-    let text = ascii_text(number).ok_or(PlainStop::NotPlain)?;
     let value = match read_value(alloc, Kind::Number, text) {
         Ok(value) => value,
         Err(ReadStop::Bad(_)) => return Err(PlainStop::NotPlain),

@@ -1,0 +1,11 @@
+-- The two components, one behind the other.
+use Rattle.std.proofs.Common.{◌∙◌, refl, sym, subst}
+use Rattle.vtl_values.specs.Structures.{IsStructure}
+use Rattle.plain_scripts.proofs.Inputs.{chars-Id, chars-Me, ID_AND_ME-IsStructure}
+use Rattle.plain_scripts.proofs.structures.id_and_me.Goals as goal
+
+pub of-requires : goal.of-requires
+of-requires c = subst IsStructure (sym (c.in_ok-push-2.ensures.items ∙ rw (c.in_ok-push.ensures.items, c.new-components.ensures.items, c.in_ok-component.ensures, c.in_ok-component-2.ensures, chars-Id, chars-Me) refl)) ID_AND_ME-IsStructure
+
+pub returns : goal.returns
+returns c = c.of.ensures ∙ c.in_ok-push-2.ensures.items ∙ rw (c.in_ok-push.ensures.items, c.new-components.ensures.items, c.in_ok-component.ensures, c.in_ok-component-2.ensures, chars-Id, chars-Me) refl
