@@ -1,33 +1,29 @@
 -- What drafts have noted, and how they are finished.
-use Rattle.std.proofs.Common.{◌≡◌, ℕ, zero, suc, ◌+◌, ◌-◌, ◌<◌, ◌≤◌, List, [], ◌∷◌, ◌++◌, map, length, Option, Some, None, Result, Ok, Err, Bool, true, false, cond, T, sym, ◌∙◌, ap, refl, subst, arith, nat_le, ◌&&◌, not, append_assoc}
-use Rattle.std.specs.Prelude.{is_some, is_none, count_by}
+use Rattle.std.proofs.Common.{◌≡◌, ℕ, zero, suc, ◌<◌, List, [], ◌∷◌, ◌++◌, map, length, Option, Some, None, Result, Ok, Err, Bool, true, false, cond, T, sym, ◌∙◌, ap, refl, subst, arith, not, append_assoc}
 use Rattle.std.specs.Option.{option_eq}
 use Rattle.std.specs.Result.{OnErr}
 use Rattle.std.specs.List.{All, AllByRecursion}
 use Rattle.std.specs.List.Sorted.{IsStrictlySortedBy}
 use Rattle.std.specs.Map.{keys_of}
 use Rattle.std.specs.BTreeMap.{insert_entry}
-use Rattle.std.proofs.lemmas.Bool.Decides.{nat_tests}
 use Rattle.std.proofs.lemmas.List.{map-append}
 use Rattle.std.proofs.lemmas.List.Elements.{All-cons}
-use Rattle.std.proofs.lemmas.List.Sums.{sum_by-cons}
 use Rattle.std.specs.declared.cmp.Ordering.{Ordering}
 use Rattle.std.specs.declared.cmp.Ordering.TheVariants.{Less, Equal, Greater}
 use Rattle.std.specs.Ordering.{is_lt, match_ordering}
-use Rattle.std.specs.FinMap.{IsAntisymmetric, entries, from_entries, insert, is_sorted}
+use Rattle.std.specs.FinMap.{IsAntisymmetric, from_entries, insert, is_sorted}
 use Rattle.std.specs.FinMap.Entries.{put, below_all, by_order}
 use Rattle.vtl_values.specs.declared.value.Value.{Value}
 use Rattle.vtl_values.specs.Order.{key_cmp}
 use Rattle.vtl_values.proofs.Values.{key_cmp-IsTotalOrder, key_cmp-IsAntisymmetric}
-use Rattle.data_model.specs.Deltas.{Pair, is_gain, is_loss, gained, lost, count_after}
+use Rattle.data_model.specs.Deltas.{Pair, count_after}
 use Rattle.data_model.specs.Outcomes.{Answer, Made, Range, TooMany, settled, lesser}
 use Rattle.data_model.specs.Drafts.{finished}
-use Rattle.data_model.specs.declared.TheConstants.{POINT_LIMIT}
 use Rattle.data_model.proofs.EntryLemmas.{from_entries-put}
 use Rattle.point_sets.specs.declared.delta.Change.{Change}
 use Rattle.point_sets.specs.DataSets.{HasKey}
 use Rattle.point_sets.specs.Changes.{Changes, change_entry, of_changes, values_eq, values_of, IsChange, AreChanges}
-use Rattle.point_sets.proofs.Changes.{entries-of_changes, All-parts, values_eq-IsEqualityTest}
+use Rattle.point_sets.proofs.Changes.{All-parts, values_eq-IsEqualityTest}
 use Rattle.point_sets.proofs.Ordered.{both}
 use Rattle.data_model.proofs.DeltaLemmas.{contradicted, option_eq-decides}
 use Rattle.held_index.specs.declared.draft.Noted.{Noted}
@@ -125,39 +121,6 @@ are_changes-taken cs all e s each = record { ascend = subst (λ (es : List (List
 pub of_changes-taken : (cs : List Change) (all : List (List Value × Noted)) → map change_entry cs ≡ map noted_entry all → of_changes cs ≡ of_noted all
 of_changes-taken cs all e = ap (λ (es : List (List Value × Pair (List Value))). let m : Changes = from_entries es in m) e
 
-gains_there : (c : Change) → is_gain (change_entry c).1 ≡ (is_none c.old && is_some c.new)
-gains_there c = elim c.old as (λ o. (is_none (values_of o) && is_some (values_of c.new)) ≡ (is_none o && is_some c.new)) [
-  | None ↦ elim c.new as (λ o. is_some (values_of o) ≡ is_some o) [ None ↦ refl | Some p ↦ refl ]
-  | Some p ↦ refl
-]
-
-losses_there : (c : Change) → is_loss (change_entry c).1 ≡ (is_some c.old && is_none c.new)
-losses_there c = elim c.old as (λ o. (is_some (values_of o) && is_none (values_of c.new)) ≡ (is_some o && is_none c.new)) [
-  | None ↦ refl
-  | Some p ↦ elim c.new as (λ o. is_none (values_of o) ≡ is_none o) [ None ↦ refl | Some q ↦ refl ]
-]
-
-count-seen : {A B : Type 0} (f : A → B) (p : B → Bool) (q : A → Bool) → ((x : A) → p (f x) ≡ q x) → (xs : List A) → count_by p (map f xs) ≡ count_by q xs
-count-seen f p q same [] = refl
-count-seen {A} {B} f p q same (x ∷ xs) =
-    sum_by-cons (λ (y : B). cond (p y) 1 0) (f x) (map f xs)
-    ∙ (λ i. cond (same x i) 1 0 + count-seen f p q same xs i)
-    ∙ sym (sum_by-cons (λ (y : A). cond (q y) 1 0) x xs)
-
-map-map : {A B C : Type 0} (g : B → C) (f : A → B) (xs : List A) → map g (map f xs) ≡ map (λ x. g (f x)) xs
-map-map g f [] = refl
-map-map {C = C} g f (x ∷ xs) = ap (λ (t : List C). g (f x) ∷ t) (map-map g f xs)
-
-module _ (cs : List Change) (h : AreChanges cs) where
-  changed_values : map (λ e. e.1) (entries (of_changes cs)) ≡ map (λ c. (change_entry c).1) cs
-  changed_values = ap (map (λ (e : List Value × Pair (List Value)). e.1)) (entries-of_changes cs h) ∙ map-map (λ (e : List Value × Pair (List Value)). e.1) change_entry cs
-
-  gained-of_changes : gained (of_changes cs) ≡ count_by (λ c. is_none c.old && is_some c.new) cs
-  gained-of_changes = ap (count_by is_gain) changed_values ∙ count-seen (λ c. (change_entry c).1) is_gain (λ c. is_none c.old && is_some c.new) gains_there cs
-
-  lost-of_changes : lost (of_changes cs) ≡ count_by (λ c. is_some c.old && is_none c.new) cs
-  lost-of_changes = ap (count_by is_loss) changed_values ∙ count-seen (λ c. (change_entry c).1) is_loss (λ c. is_some c.old && is_none c.new) losses_there cs
-
 -- the three answers, of data sets
 abbrev pub made_of : Changes → Answer (List Value) Changes
 made_of d = Made d
@@ -167,22 +130,6 @@ range_of k = Range k
 
 abbrev pub too_many : Answer (List Value) Changes
 too_many = TooMany
-
--- the changes are the answer, unless too many points are left
-module _ (cs : List Change) (d : Changes) (before g l : ℕ) (h : AreChanges cs) (is : of_changes cs ≡ d) (gains : g ≡ count_by (λ c. is_none c.old && is_some c.new) cs) (losses : l ≡ count_by (λ c. is_some c.old && is_none c.new) cs) where
-  counted : count_after before d ≡ (before + g) - l
-  counted =
-      let more : gained d ≡ g = ap gained (sym is) ∙ gained-of_changes cs h ∙ sym gains in
-      let fewer : lost d ≡ l = ap lost (sym is) ∙ lost-of_changes cs h ∙ sym losses in
-      λ i. (before + more i) - fewer i
-
-  pub settled-made : before + g ≤ POINT_LIMIT + l → made_of (of_changes cs) ≡ settled None (count_after before d) d
-  settled-made few = let test : nat_le (count_after before d) POINT_LIMIT ≡ true = rw counted (grind (arith, nat_tests, few)) in
-      ap made_of is ∙ sym (ap (λ b. cond b (made_of d) too_many) test)
-
-  pub settled-too_many : POINT_LIMIT + l < before + g → too_many ≡ settled None (count_after before d) d
-  settled-too_many many = let test : nat_le (count_after before d) POINT_LIMIT ≡ false = rw counted (grind (arith, nat_tests, many)) in
-      sym (ap (λ b. cond b (made_of d) too_many) test)
 
 module _ (d : Changes) (b : Option (List Value)) (n : SetDraft) (before : ℕ) (is : draft_of d b ≡ n) where
   -- an evaluation was out of range

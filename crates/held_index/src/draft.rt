@@ -110,9 +110,9 @@ fn delta_of(alloc: Global, noted: BTreeMap<Key, Noted>, before: u64) -> Result<D
     requires few { before ≤ POINT_LIMIT }
     ensures { IfSome (answer_of result) (λ answer. answer ≡ settled None (count_after before (of_noted noted.entries)) (of_noted noted.entries)) }
 {
-    let changes = changes_of(alloc, noted)?;
-    if before + gains(changes.as_slice()) <= POINT_LIMIT + losses(changes.as_slice()) {
-        Ok(Delta::of(changes))
+    let delta = Delta::of(changes_of(alloc, noted)?);
+    if delta.count_after(before) <= POINT_LIMIT {
+        Ok(delta)
     } else {
         Err(Stop::TooMany)
     }
@@ -139,34 +139,6 @@ fn changes_of(alloc: Global, mut noted: BTreeMap<Key, Noted>) -> Result<Vec<Chan
         changes.push(values.change_at(key))?;
     }
     Ok(changes)
-}
-
-/// How many points the changes bring.
-fn gains(changes: &[Change]) -> u64
-    ensures value { result ≡ count_by (λ c. is_none c.old && is_some c.new) changes.now }
-    ensures few { result ≤ length changes.now }
-{
-    let mut count: u64 = 0;
-    for change in changes {
-        if change.old.is_none() && change.new.is_some() {
-            count += 1;
-        }
-    }
-    count
-}
-
-/// How many points the changes take away.
-fn losses(changes: &[Change]) -> u64
-    ensures value { result ≡ count_by (λ c. is_some c.old && is_none c.new) changes.now }
-    ensures few { result ≤ length changes.now }
-{
-    let mut count: u64 = 0;
-    for change in changes {
-        if change.old.is_some() && change.new.is_none() {
-            count += 1;
-        }
-    }
-    count
 }
 
 /// Whether two places have points with the same values, or none.

@@ -24,7 +24,7 @@ use Rattle.vtl_decimals.specs.Arithmetic.{sum_of}
 use Rattle.vtl_decimals.proofs.SchoolLaws.{number_of-made}
 use Rattle.data_model.specs.Outcomes.{Made, Range, TooMany, IsOutcome}
 use Rattle.point_sets.specs.DataSets.{DataSet}
-use Rattle.structured_sets.specs.Fitting.{others, FitsComponent, IsPointOf, IsInCodes}
+use Rattle.structured_sets.specs.Fitting.{others, FitsComponent, IsPointOf, IsBoundedSetOf, is_in_codes}
 use Rattle.checked_trees.specs.declared.script.CheckedStatement.{CheckedStatement}
 use Rattle.checked_trees.specs.declared.tree.Source.{Source}
 use Rattle.checked_trees.specs.declared.tree.Source.TheVariants.{Input, Result as ResultOf}
@@ -35,7 +35,7 @@ use Rattle.checked_trees.specs.Operators.{Operator, IsTyped, IsOneNumber, role_a
 use Rattle.checked_trees.specs.Expressions.{Expression, Expressions, Named, Applied, none, more, expression_of}
 use Rattle.checked_trees.specs.Scripts.{Script, IsChecked, names_in, structure_of_source}
 use Rattle.checked_trees.specs.Typing.{HasStructure, HaveStructures}
-use Rattle.operator_meaning.specs.Operators.{SetOutcome, on_two, meaning_of, IsOperand, AreOperands}
+use Rattle.operator_meaning.specs.Operators.{SetOutcome, on_two, meaning_of, AreOperands}
 use Rattle.operator_meaning.specs.Results.{Wrong, Evaluated, sets_of, points_of, placed, worked, gathered, result_of, results_of}
 use Rattle.operator_meaning.specs.Scripts.{State, Has, Fails, Idle, state_of, set_in, set_named, worked_out, state_at, with_at, states_after, states}
 use Rattle.operator_meaning.specs.Sums.{plus, plus_all, sum_at, is_out_of_range, evaluated, sum}
@@ -53,15 +53,15 @@ number_or_null (Number a) (Number b) z e = number (sum_of a b) (λ n made. (numb
 number_or_null x y z e = let same : Null ≡ z = cc in subst (λ (v : Value). Fits NumberKind v) same tt
 
 -- a number is in every list of codes
-is_in_codes : (codes : Codes) (z : Value) → Fits NumberKind z → IsInCodes codes z
-is_in_codes Any z h = tt
-is_in_codes (Listed codes) (Text text) h = absurd h
-is_in_codes (Listed codes) z h = tt
+number-in_codes : (codes : Codes) (z : Value) → Fits NumberKind z → is_in_codes codes z ≡ true
+number-in_codes Any z h = refl
+number-in_codes (Listed codes) (Text text) h = absurd h
+number-in_codes (Listed codes) z h = refl
 
 plus-fits : (c : Component) (x y z : Value) → c.kind ≡ NumberKind → plus x y ≡ Some z → FitsComponent c z
 plus-fits c x y z kind e =
     let number = number_or_null x y z e in
-    record { kind = subst (λ (k : Kind). Fits k z) (sym kind) number; codes = is_in_codes c.codes z number }
+    record { kind = subst (λ (k : Kind). Fits k z) (sym kind) number; codes = number-in_codes c.codes z number }
 
 abbrev first_kind : List (Role × Kind) → Kind
 first_kind [] = NumberKind
@@ -95,28 +95,31 @@ point-fits cs k (Some xs) (Some ys) one fp fq = by_sum (plus_all xs ys) refl
     by_sum None e = tt
     by_sum (Some zs) e = record { key_fits = fp.key_fits; rest_fits = plus_all-fits (others cs) xs ys zs one fp.rest_fits fq.rest_fits e }
 
-sum-fits : (cs : List Component) (a b y : DataSet) → IsOneNumber cs → IsOperand cs a → IsOperand cs b → sum a b ≡ Made y → IsOperand cs y
+sum-fits : (cs : List Component) (a b y : DataSet) → IsOneNumber cs → IsBoundedSetOf cs a → IsBoundedSetOf cs b → sum a b ≡ Made y → IsBoundedSetOf cs y
 sum-fits cs a b y one fa fb e =
     let h = subst (λ (o : SetOutcome). IsOutcome {R = key_cmp} (λ k. is_out_of_range (sum_at a b k)) (λ k. evaluated (sum_at a b k)) o) e (sum-IsOutcome a b) in
-    (λ k. subst (λ (o : Option (List Value)). IfSome o (IsPointOf cs k)) (sym (h.0.values k)) (point-fits cs k (get a k) (get b k) one (fa.0 k) (fb.0 k)), h.1)
+    record {
+      fits = λ k. subst (λ (o : Option (List Value)). IfSome o (IsPointOf cs k)) (sym (h.0.values k)) (point-fits cs k (get a k) (get b k) one (fa.fits k) (fb.fits k));
+      few = h.1;
+    }
 
-pub empty-fits : (cs : List Component) → IsOperand cs empty
-empty-fits cs = (λ k. rw (get-empty key_cmp k) tt, let none = len-empty key_cmp (List Value) in omega (arith, none))
+pub empty-fits : (cs : List Component) → IsBoundedSetOf cs empty
+empty-fits cs = record { fits = λ k. rw (get-empty key_cmp k) tt; few = let none = len-empty key_cmp (List Value) in omega (arith, none) }
 
 -- ---- operators
 
-two-fit : (s : List Component) (xs : List DataSet) (y : DataSet) → IsOneNumber s → AreOperands (s ∷ s ∷ []) xs → on_two sum xs ≡ Made y → IsOperand s y
+two-fit : (s : List Component) (xs : List DataSet) (y : DataSet) → IsOneNumber s → AreOperands (s ∷ s ∷ []) xs → on_two sum xs ≡ Made y → IsBoundedSetOf s y
 two-fit s [] y one h e = absurd h
 two-fit s (a ∷ []) y one h e = absurd h.1
 two-fit s (a ∷ b ∷ []) y one h e = sum-fits s a b y one h.0 h.1.0 e
 two-fit s (a ∷ b ∷ c ∷ xs) y one h e = absurd h.1.1
 
 parts-fit : (op : CheckedOp) (operands : List (List Component)) (structure : List Component) (xs : List DataSet) (y : DataSet)
-    → IsTyped (record { op = op; operands = operands; structure = structure }) → AreOperands operands xs → meaning_of (record { op = op; operands = operands; structure = structure }) xs ≡ Made y → IsOperand structure y
+    → IsTyped (record { op = op; operands = operands; structure = structure }) → AreOperands operands xs → meaning_of (record { op = op; operands = operands; structure = structure }) xs ≡ Made y → IsBoundedSetOf structure y
 parts-fit (Pair Sum) operands structure xs y typed h e = two-fit structure xs y typed.1 (subst (λ (ss : List (List Component)). AreOperands ss xs) typed.0 h) e
 
 -- what a typed operator gives on operands of its structures is of its structure
-pub meaning_of-fits : (o : Operator) (xs : List DataSet) (y : DataSet) → IsTyped o → AreOperands o.operands xs → meaning_of o xs ≡ Made y → IsOperand o.structure y
+pub meaning_of-fits : (o : Operator) (xs : List DataSet) (y : DataSet) → IsTyped o → AreOperands o.operands xs → meaning_of o xs ≡ Made y → IsBoundedSetOf o.structure y
 meaning_of-fits o xs y typed h e = parts-fit o.op o.operands o.structure xs y typed h e
 
 -- ---- expressions
@@ -154,16 +157,16 @@ pub worked-ok : (o : Operator) (place : Place) (r : Result (List Evaluated) Wron
 worked-ok o place (Ok vs) v e = let p = placed-ok place (points_of vs) (meaning_of o (sets_of vs)) v e in record { operands = vs; gathered = refl; made = p.made; points = p.points }
 worked-ok o place (Err w) v e = cc
 
-module _ {N : Type 0} (structures : N → Option (List Component)) (sets : N → DataSet) (fit : (n : N) (t : List Component) → structures n ≡ Some t → IsOperand t (sets n)) where
+module _ {N : Type 0} (structures : N → Option (List Component)) (sets : N → DataSet) (fit : (n : N) (t : List Component) → structures n ≡ Some t → IsBoundedSetOf t (sets n)) where
   mutual
     -- what a well typed expression gives is of its structure
-    pub result_of-fits : (e : Expression N) (t : List Component) (v : Evaluated) → HasStructure structures e t → result_of sets e ≡ Ok v → IsOperand t v.set
+    pub result_of-fits : (e : Expression N) (t : List Component) (v : Evaluated) → HasStructure structures e t → result_of sets e ≡ Ok v → IsBoundedSetOf t v.set
     result_of-fits (Named n) t v h e =
         let same : ◌≡◌ {A = Evaluated} (record { set = sets n; points = 0 }) v = cc in
-        subst (λ (w : Evaluated). IsOperand t w.set) same (fit n t h)
+        subst (λ (w : Evaluated). IsBoundedSetOf t w.set) same (fit n t h)
     result_of-fits (Applied o place es) t v h e =
         let w = worked-ok o place (results_of sets es) v e in
-        subst (λ (u : List Component). IsOperand u v.set) (sym h.0) (meaning_of-fits o (sets_of w.operands) v.set h.1 (results_of-fit es o.operands w.operands h.2 w.gathered) w.made)
+        subst (λ (u : List Component). IsBoundedSetOf u v.set) (sym h.0) (meaning_of-fits o (sets_of w.operands) v.set h.1 (results_of-fit es o.operands w.operands h.2 w.gathered) w.made)
 
     pub results_of-fit : (es : Expressions N) (ts : List (List Component)) (vs : List Evaluated) → HaveStructures structures es ts → results_of sets es ≡ Ok vs → AreOperands ts (sets_of vs)
     results_of-fit none [] vs h e = let same : ◌≡◌ {A = List Evaluated} [] vs = cc in subst (λ (ws : List Evaluated). AreOperands [] (sets_of ws)) same tt
@@ -184,28 +187,28 @@ worked_out-has true (Ok w) v e = record { all_there = refl; result_is = cc }
 worked_out-has true (Err w) v e = cc
 worked_out-has false r v e = cc
 
-input-fits : (ss : NamedStructures) (xs : List DataSet) (n : ℕ) (t : List Component) → AreOperands (map (λ named. named.1) ss) xs → option_map (λ named. named.1) (slice_get ss n) ≡ Some t → IsOperand t (unwrap_or (slice_get xs n) empty)
+input-fits : (ss : NamedStructures) (xs : List DataSet) (n : ℕ) (t : List Component) → AreOperands (map (λ named. named.1) ss) xs → option_map (λ named. named.1) (slice_get ss n) ≡ Some t → IsBoundedSetOf t (unwrap_or (slice_get xs n) empty)
 input-fits [] xs n t h e = cc
 input-fits (s ∷ ss) [] n t h e = absurd h
-input-fits (s ∷ ss) (x ∷ xs) zero t h e = let same : s.1 ≡ t = cc in subst (λ (u : List Component). IsOperand u x) same h.0
+input-fits (s ∷ ss) (x ∷ xs) zero t h e = let same : s.1 ≡ t = cc in subst (λ (u : List Component). IsBoundedSetOf u x) same h.0
 input-fits (s ∷ ss) (x ∷ xs) (suc n) t h e = input-fits ss xs n t h.1 e
 
 module _ (s : Script) (xs : List DataSet) (checked : IsChecked s) (inputs : AreOperands (map (λ named. named.1) s.inputs) xs) where
   -- the data sets that statements have are of their structures
   abbrev AllFit : (ℕ → State) → Type 0
-  AllFit f = (j : ℕ) (v : Evaluated) (statement : CheckedStatement) → f j ≡ Has v → slice_get s.statements j ≡ Some statement → IsOperand statement.structure v.set
+  AllFit f = (j : ℕ) (v : Evaluated) (statement : CheckedStatement) → f j ≡ Has v → slice_get s.statements j ≡ Some statement → IsBoundedSetOf statement.structure v.set
 
-  pub named-fits : (f : ℕ → State) → AllFit f → (n : Source) (t : List Component) → structure_of_source s n ≡ Some t → IsOperand t (unwrap_or (set_named xs f n) empty)
+  pub named-fits : (f : ℕ → State) → AllFit f → (n : Source) (t : List Component) → structure_of_source s n ≡ Some t → IsBoundedSetOf t (unwrap_or (set_named xs f n) empty)
   named-fits f h (Input n) t e = input-fits s.inputs xs n t inputs e
   named-fits f h (ResultOf j) t e = by_state (f j) refl (slice_get s.statements j) refl e
     where
-      by_state : (state : State) → f j ≡ state → (o : Option CheckedStatement) → slice_get s.statements j ≡ o → option_map (λ statement. statement.structure) o ≡ Some t → IsOperand t (unwrap_or (set_in state) empty)
+      by_state : (state : State) → f j ≡ state → (o : Option CheckedStatement) → slice_get s.statements j ≡ o → option_map (λ statement. statement.structure) o ≡ Some t → IsBoundedSetOf t (unwrap_or (set_in state) empty)
       by_state (Has v) is None there e = cc
-      by_state (Has v) is (Some statement) there e = let same : statement.structure ≡ t = cc in subst (λ (u : List Component). IsOperand u v.set) same (h j v statement is there)
+      by_state (Has v) is (Some statement) there e = let same : statement.structure ≡ t = cc in subst (λ (u : List Component). IsBoundedSetOf u v.set) same (h j v statement is there)
       by_state (Fails w) is o there e = empty-fits t
       by_state Idle is o there e = empty-fits t
 
-  state_at-fits : (f : ℕ → State) → AllFit f → (i : ℕ) (v : Evaluated) (statement : CheckedStatement) → state_at s xs f i ≡ Has v → slice_get s.statements i ≡ Some statement → IsOperand statement.structure v.set
+  state_at-fits : (f : ℕ → State) → AllFit f → (i : ℕ) (v : Evaluated) (statement : CheckedStatement) → state_at s xs f i ≡ Has v → slice_get s.statements i ≡ Some statement → IsBoundedSetOf statement.structure v.set
   state_at-fits f h i v statement e there =
       let out : worked_out (set_named xs f) (expression_of statement.tree) ≡ Has v = rw there at e in
       let w = worked_out-has (list_all (λ n. is_some (set_named xs f n)) (names_in (expression_of statement.tree))) (result_of (λ n. unwrap_or (set_named xs f n) empty) (expression_of statement.tree)) v out in

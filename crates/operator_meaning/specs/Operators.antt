@@ -1,14 +1,13 @@
 -- What an operator gives on its operands (docs/language.md, "Data set operators").
-use Rattle.std.specs.Prelude.{◌≤◌, List, [], ◌∷◌}
+use Rattle.std.specs.Prelude.{List, [], ◌∷◌}
 use Rattle.std.specs.List.{AllZip}
-use Rattle.std.specs.FinMap.{empty, len}
+use Rattle.std.specs.FinMap.{empty}
 use Rattle.vtl_values.specs.declared.structure.Component.{Component}
 use Rattle.vtl_values.specs.declared.value.Value.{Value}
 use Rattle.vtl_values.specs.Order.{key_cmp}
 use Rattle.data_model.specs.Outcomes.{Outcome, made}
-use Rattle.data_model.specs.declared.TheConstants.{POINT_LIMIT}
 use Rattle.point_sets.specs.DataSets.{DataSet}
-use Rattle.structured_sets.specs.Fitting.{IsSetOf}
+use Rattle.structured_sets.specs.Fitting.{IsBoundedSetOf}
 use Rattle.checked_trees.specs.declared.tree.CheckedOp.{CheckedOp}
 use Rattle.checked_trees.specs.declared.tree.CheckedOp.TheVariants.{Pair}
 use Rattle.checked_trees.specs.declared.tree.CheckedPair.{CheckedPair}
@@ -36,9 +35,6 @@ meaning_of o = by_op o.op
     by_op : CheckedOp → List DataSet → SetOutcome
     by_op (Pair pair) = pair_meaning pair
 
--- operands of these structures, each of at most 200,000 points
-abbrev pub IsOperand : List Component → DataSet → Type 0
-IsOperand structure x = IsSetOf structure x × (len x ≤ POINT_LIMIT)
-
+-- operands of these structures
 abbrev pub AreOperands : List (List Component) → List DataSet → Type 0
-AreOperands structures xs = AllZip IsOperand structures xs
+AreOperands structures xs = AllZip IsBoundedSetOf structures xs

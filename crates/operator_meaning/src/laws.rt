@@ -10,7 +10,8 @@ ghost use Rattle.checked_trees.specs.Expressions.{Expression};
 ghost use Rattle.checked_trees.specs.Operators.{Operator, IsTyped};
 ghost use Rattle.checked_trees.specs.Scripts.{Script, IsChecked};
 ghost use Rattle.checked_trees.specs.Typing.{HasStructure};
-ghost use Rattle.operator_meaning.specs.Operators.{meaning_of, IsOperand, AreOperands};
+ghost use Rattle.operator_meaning.specs.Operators.{meaning_of, AreOperands};
+ghost use Rattle.structured_sets.specs.Fitting.{IsBoundedSetOf};
 ghost use Rattle.operator_meaning.specs.Results.{Evaluated, result_of, without_points};
 ghost use Rattle.operator_meaning.specs.Scripts.{Has, script_wrong, state_at, states};
 
@@ -24,14 +25,14 @@ pub fn states_go_by_names()
 /// structures, is a data set of its structure, of at most 200,000 points.
 pub fn results_fit()
     ensures operator { (o : Operator) (xs : List DataSet) (y : DataSet) → IsTyped o → AreOperands o.operands xs →
-        meaning_of o xs ≡ Made y → IsOperand o.structure y }
+        meaning_of o xs ≡ Made y → IsBoundedSetOf o.structure y }
     ensures expression { (structures : Source → Option (List Component)) (sets : Source → DataSet)
         (e : Expression Source) (t : List Component) (v : Evaluated) →
-        ((n : Source) (u : List Component) → structures n ≡ Some u → IsOperand u (sets n)) →
-        HasStructure structures e t → result_of sets e ≡ Ok v → IsOperand t v.set }
+        ((n : Source) (u : List Component) → structures n ≡ Some u → IsBoundedSetOf u (sets n)) →
+        HasStructure structures e t → result_of sets e ≡ Ok v → IsBoundedSetOf t v.set }
     ensures statement { (s : Script) (xs : List DataSet) (i : ℕ) (v : Evaluated) (statement : CheckedStatement) →
         IsChecked s → AreOperands (map (λ named. named.1) s.inputs) xs → states s xs i ≡ Has v →
-        slice_get s.statements i ≡ Some statement → IsOperand statement.structure v.set }
+        slice_get s.statements i ≡ Some statement → IsBoundedSetOf statement.structure v.set }
 {}
 
 /// On empty operands a typed operator gives the empty data set; so on empty inputs each statement of a checked script

@@ -1,4 +1,5 @@
 pub mod Changes
+pub mod Counts
 pub mod Edited
 pub mod Keys
 pub mod Ordered

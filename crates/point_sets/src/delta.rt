@@ -1,9 +1,9 @@
 // Deltas of data sets.
-ghost use Rattle.std.specs.Prelude.{◌≡◌, ◌++◌, map, IfOk, OnOk, IfSome};
+ghost use Rattle.std.specs.Prelude.{◌≡◌, ◌≤◌, ◌++◌, ◌&&◌, map, length, count_by, is_some, is_none, IfOk, OnOk, IfSome};
 ghost use Rattle.std.specs.Option.{option_copied, option_eq, option_map};
 ghost use Rattle.std.specs.List.{All};
 ghost use Rattle.std.specs.FinMap as finmap;
-ghost use Rattle.data_model.specs.Deltas.{Differs, Leads, composed};
+ghost use Rattle.data_model.specs.Deltas.{Differs, Leads, composed, count_after};
 ghost use Rattle.vtl_values.specs.Order.{key_cmp};
 ghost use Rattle.point_sets.specs.DataSets.{DataSet};
 ghost use Rattle.point_sets.specs.Changes.{values_eq, values_of, change_entry, of_changes, entry_at, joined, IsChange, AreChanges, IsSamePoint};
@@ -11,6 +11,7 @@ ghost use Rattle.point_sets.specs.Places.{below, above};
 
 use crate::key::Key;
 use crate::point::Point;
+use data_model::POINT_LIMIT;
 use std::alloc::{AllocError, Global};
 use std::cmp::Ordering;
 use std::marker::Model;
@@ -59,6 +60,43 @@ impl Delta {
     {
         self.changes.as_slice()
     }
+
+    /// How many points there are after the delta, of so many before.
+    pub fn count_after(&self, before: u64) -> u64
+        requires { before ≤ POINT_LIMIT }
+        ensures { result ≡ count_after before self.now }
+    {
+        let changes = self.changes();
+        let most = before + gains(changes);
+        most.saturating_sub(losses(changes))
+    }
+}
+
+/// How many points the changes bring.
+fn gains(changes: &[Change]) -> u64
+    ensures value { result ≡ count_by (λ c. is_none c.old && is_some c.new) changes.now }
+    ensures few { result ≤ length changes.now }
+{
+    let mut count: u64 = 0;
+    for change in changes {
+        if change.old.is_none() && change.new.is_some() {
+            count += 1;
+        }
+    }
+    count
+}
+
+/// How many points the changes take away.
+fn losses(changes: &[Change]) -> u64
+    ensures { result ≡ count_by (λ c. is_some c.old && is_none c.new) changes.now }
+{
+    let mut count: u64 = 0;
+    for change in changes {
+        if change.old.is_some() && change.new.is_none() {
+            count += 1;
+        }
+    }
+    count
 }
 
 /// One delta for two, of which the second begins where the first one ends. A key that comes back to its point isn't

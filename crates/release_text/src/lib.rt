@@ -13,9 +13,9 @@ pub mod release;
 mod row_writer;
 pub mod table;
 
-pub use pages::{Page, Pages};
-pub use release::{Release, release_text};
-pub use table::{rows_text, values_row};
+pub use pages::Pages;
+pub use release::Release;
+pub use table::{rows_text, values_row, words_row};
 
 #[cfg(test)]
 mod tests;

@@ -4,7 +4,6 @@ ghost use Rattle.std.specs.FinMap as finmap;
 ghost use Rattle.data_model.specs.Deltas.{apply, BeginsAt, Leads};
 ghost use Rattle.outside.specs.Sinks.{Extends};
 ghost use Rattle.release_text.specs.Releases.{page_of, page_text};
-ghost use Rattle.release_text.specs.Shown.{shown};
 
 use crate::table::rows_text;
 use outside::{Sink, SinkStop, put};
@@ -14,22 +13,20 @@ use std::marker::Model;
 use std::sync::Arc;
 use vtl_values::{Structure, Word};
 
-/// A data set of a release, with its name and its structure.
-#[derive(Clone, Copy, Debug)]
-pub struct Page<'a> {
-    pub name: &'a Word,
-    pub structure: &'a Structure,
-    pub set: &'a PointSet,
-}
-
-/// Writes the line of the name and the table behind the text.
-pub(crate) fn push_page(alloc: Global, text: &mut Vec<u8>, page: &Page) -> Result<(), AllocError>
-    ensures { OnOk result (text.new.items ≡ text.old.items ++ page_text (shown page.now)) }
+// Writes the line of the name and the table behind the text.
+fn push_page(
+    alloc: Global,
+    text: &mut Vec<u8>,
+    name: &Word,
+    structure: &Structure,
+    set: &PointSet,
+) -> Result<(), AllocError>
+    ensures { OnOk result (text.new.items ≡ text.old.items ++ page_text (page_of name.now structure.now set.now)) }
 {
     text.push(b'[')?;
-    text.extend_from_slice(page.name.as_str().as_bytes())?;
+    text.extend_from_slice(name.as_str().as_bytes())?;
     text.extend_from_slice(b"]\n")?;
-    let table = rows_text(alloc, page.structure, page.set)?;
+    let table = rows_text(alloc, structure, set)?;
     text.extend_from_slice(table.as_slice())?;
     Ok(())
 }
@@ -87,12 +84,7 @@ impl Pages {
         ensures { IfOk result (λ pages. pages ≡ page_of name structure set) }
     {
         let mut text = Vec::new(alloc);
-        let page = Page {
-            name: &name,
-            structure: &structure,
-            set: &set,
-        };
-        push_page(alloc, &mut text, &page)?;
+        push_page(alloc, &mut text, &name, &structure, &set)?;
         let held = Held {
             name,
             structure,

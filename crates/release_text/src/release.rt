@@ -2,9 +2,8 @@
 ghost use Rattle.std.specs.Prelude.{◌≡◌, ◌++◌, IfOk, OnOk, map};
 ghost use Rattle.outside.specs.Sinks.{Extends};
 ghost use Rattle.release_text.specs.Releases.{release, release_line};
-ghost use Rattle.release_text.specs.Shown.{shown};
 
-use crate::pages::{Page, Pages, push_page};
+use crate::pages::Pages;
 use itoa::Buffer;
 use outside::{Sink, SinkStop, put};
 use sqlite_items::Items;
@@ -73,20 +72,4 @@ fn write_line<K: Sink>(
     let written = put(out, written, b" prefix ");
     let written = put(out, written, digits.format(prefix).as_bytes());
     put(out, written, b"\n")
-}
-
-/// The text of the release of this number at this prefix, or want of memory.
-pub fn release_text(
-    alloc: Global,
-    number: u64,
-    prefix: u64,
-    pages: &[Page],
-) -> Result<Vec<u8>, AllocError>
-    ensures { IfOk result (λ text. text.items ≡ release number prefix (map shown pages.now)) }
-{
-    let mut text = format!(in alloc; "release {number} prefix {prefix}\n")?.into_bytes();
-    for page in pages {
-        push_page(alloc, &mut text, page)?;
-    }
-    Ok(text)
 }

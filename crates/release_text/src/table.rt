@@ -3,14 +3,26 @@ ghost use Rattle.std.specs.Prelude.{◌≡◌, ℕ, List, [], ◌++◌, IfOk, On
 ghost use Rattle.std.specs.List.{flat_map};
 ghost use Rattle.std.specs.FinMap.{entries};
 ghost use Rattle.point_sets.specs.DataSets.{entry_of};
-ghost use Rattle.release_text.specs.Rows.{HasWritten};
+ghost use Rattle.release_text.specs.Rows.{HasWritten, row};
 ghost use Rattle.release_text.specs.Tables.{header_row, point_row, table, values_row as row_of_values};
 
 use crate::row_writer::RowWriter;
 use point_sets::{Point, PointSet};
 use std::alloc::{AllocError, Global};
 use std::sync::Arc;
-use vtl_values::{Structure, Value};
+use vtl_values::{Structure, Value, Word};
+
+/// The texts as a row, or want of memory.
+pub fn words_row(alloc: Global, words: &[Word]) -> Result<Vec<u8>, AllocError>
+    ensures { IfOk result (λ text. text.items ≡ row words.now) }
+{
+    let mut writer = RowWriter::new(alloc);
+    for word in words {
+        writer.push(word)?;
+    }
+    writer.end_row()?;
+    writer.into_text()
+}
 
 /// The values as a row, or want of memory.
 pub fn values_row(alloc: Global, values: &[Value]) -> Result<Vec<u8>, AllocError>

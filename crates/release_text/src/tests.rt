@@ -3,7 +3,7 @@ ghost use Rattle.std.specs.Prelude.{◌≡◌, IfOk, None};
 ghost use Rattle.std.specs.FinMap as finmap;
 ghost use Rattle.point_sets.specs.Changes.{IsChange};
 
-use crate::{Page, Pages, Release, release_text, rows_text, values_row};
+use crate::{Pages, Release, rows_text, values_row};
 use outside::{MemorySink, SinkStop};
 use point_sets::{Change, Delta, Key, Point, PointSet};
 use sqlite_items::Items;
@@ -89,7 +89,7 @@ fn writes_values(rt: HostRuntime) -> Result<(), Fail> {
 }
 
 #[test]
-fn writes_tables_and_releases(rt: HostRuntime) -> Result<(), Fail> {
+fn writes_tables(rt: HostRuntime) -> Result<(), Fail> {
     let alloc = rt.alloc();
     let one = one_measure(alloc)?;
     let two = key_and_measure(&rt, alloc)?;
@@ -128,28 +128,6 @@ fn writes_tables_and_releases(rt: HostRuntime) -> Result<(), Fail> {
         let rows = rows_text(alloc, structure, set)?;
         assert!(rt; rows.as_slice() == wanted.as_bytes(), "wanted {wanted}");
     }
-
-    let name = Word::from_str(alloc, "größen, liste")?;
-    let other = Word::from_str(alloc, "DS_r")?;
-    let pages = [
-        Page {
-            name: &name,
-            structure: &two,
-            set: &points,
-        },
-        Page {
-            name: &other,
-            structure: &one,
-            set: &total,
-        },
-    ];
-    let text = release_text(alloc, 10, 7, &pages)?;
-    let wanted = format!(in alloc;
-        "release 10 prefix 7\n[größen, liste]\n{table}[DS_r]\nwert\n\"\"\n"
-    )?;
-    assert!(rt; text.as_slice() == wanted.as_bytes());
-    let text = release_text(alloc, 0, 0, &[])?;
-    assert!(rt; text.as_slice() == b"release 0 prefix 0\n".as_slice());
     Ok(())
 }
 

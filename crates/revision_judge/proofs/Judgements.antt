@@ -21,13 +21,13 @@ use Rattle.point_sets.specs.DataSets.{DataSet}
 use Rattle.point_sets.specs.Changes.{Changes}
 use Rattle.point_sets.specs.declared.revision.RawRow.{RawRow}
 use Rattle.point_sets.specs.declared.revision.Revision.{Revision}
-use Rattle.structured_sets.specs.Fitting.{IsSetOf, IsPointOf}
+use Rattle.structured_sets.specs.Fitting.{IsSetOf, IsBoundedSetOf, IsPointOf}
 use Rattle.revision_judge.specs.declared.ruling.Refusal.{Refusal}
 use Rattle.revision_judge.specs.declared.ruling.Ruling.TheVariants as ruling
 use Rattle.revision_judge.specs.declared.tally.Tally.{Tally}
 use Rattle.revision_judge.specs.Rows.{Progress, rows_judged}
 use Rattle.revision_judge.specs.Tallies.{IsTally}
-use Rattle.revision_judge.specs.Judging.{Judgement, Fit, Refused, IsInput, AreInputs, StandsForJudgement, components_of, input, inputs_with, inputs_then, inputs_after, no_points, settled, judgement_on, judged_at, judged}
+use Rattle.revision_judge.specs.Judging.{Judgement, Fit, Refused, AreInputs, StandsForJudgement, components_of, input, inputs_with, inputs_then, inputs_after, no_points, settled, judgement_on, judged_at, judged}
 use Rattle.revision_judge.proofs.Kept.{rows-keep}
 
 -- ---- the data set with a number
@@ -39,7 +39,7 @@ pub number-within : (structures : NamedStructures) (inputs : List DataSet) (name
 number-within structures inputs name n h is =
     let found : n < length (keys_of structures) = (position-Some (pointwise nat_eq name) (keys_of structures) n [] is).0 in
     let named = length-map structures (λ (e : List ℕ × List Component). e.0) in
-    let long = AllZip-long IsInput structures inputs h in
+    let long = AllZip-long (λ (named : List ℕ × List Component). IsBoundedSetOf named.1) structures inputs h in
     omega (arith, found, named, long)
 
 pub input-at : (structures : NamedStructures) (inputs : List DataSet) (n : ℕ) → AreInputs structures inputs → n < length inputs → IsSetOf (components_of structures n) (input inputs n) × (len (input inputs n) ≤ POINT_LIMIT)

@@ -30,11 +30,11 @@ use Rattle.point_sets.specs.declared.revision.Action.TheVariants as action
 use Rattle.point_sets.specs.declared.revision.RawField.{RawField}
 use Rattle.point_sets.specs.declared.revision.RawField.TheVariants.{Empty}
 use Rattle.point_sets.specs.declared.revision.RawRow.{RawRow}
-use Rattle.structured_sets.specs.Fitting.{is_identifier, IsInCodes, FitsComponent, FitsIdentifier, IsPointOf, IsSetOf}
+use Rattle.structured_sets.specs.Fitting.{is_identifier, is_in_codes, FitsComponent, FitsIdentifier, IsPointOf, IsSetOf}
 use Rattle.revision_judge.specs.declared.cause.Cause.{Cause}
 use Rattle.revision_judge.specs.declared.cause.Cause.TheVariants.{NullIdentifier, NotInCodes, KeyTwice, NoSuchPoint, SetFull, BadText as BadCause}
 use Rattle.revision_judge.specs.declared.ruling.Refusal.{Refusal}
-use Rattle.revision_judge.specs.Fields.{Cell, text_in, is_null, is_in_codes, fitting, value_in, values_in, key_cells, rest_cells}
+use Rattle.revision_judge.specs.Fields.{Cell, text_in, is_null, fitting, value_in, values_in, key_cells, rest_cells}
 use Rattle.revision_judge.specs.Steps.{◌>>=◌}
 use Rattle.revision_judge.specs.Rows.{Ask, Put, Remove, Progress, at_first, asked, granted, grown, or_refused, refused_at, row_judged, rows_judged}
 use Rattle.revision_judge.proofs.Cells.{chosen}
@@ -58,24 +58,6 @@ both_true : (a b : Bool) → (a && b) ≡ true → (a ≡ true) × (b ≡ true)
 both_true true b e = (refl, e)
 both_true false b e = cc
 
-same_text-equal : (a b : List ℕ) → same_text a b ≡ true → a ≡ b
-same_text-equal [] [] e = refl
-same_text-equal [] (b ∷ bs) e = cc
-same_text-equal (a ∷ t) [] e = cc
-same_text-equal (a ∷ t) (b ∷ bs) e =
-    let parts = both_true (nat_eq a b) (pointwise nat_eq t bs) e in
-    let first : a ≡ b = eqb_yes (subst T (sym parts.0) tt) in
-    let rest = same_text-equal t bs parts.1 in
-    λ i. first i ∷ rest i
-
-in_codes : (codes : Codes) (v : Value) → is_in_codes codes v ≡ true → IsInCodes codes v
-in_codes Any v e = tt
-in_codes (Listed codes) Null e = tt
-in_codes (Listed codes) (Truth b) e = tt
-in_codes (Listed codes) (Integer n) e = tt
-in_codes (Listed codes) (Number n) e = tt
-in_codes (Listed codes) (Text text) e = Contains-from_any same_text-equal text codes e
-
 not_null : (c : Component) (v : Value) → is_identifier c ≡ true → (is_identifier c && is_null v) ≡ false → v ≢ Null
 not_null c v identifier some null = let bad : true ≡ false = sym (λ i. identifier i && is_null (null i)) ∙ some in cc
 
@@ -91,7 +73,7 @@ module _ (cell : Cell) (v : Value) (e : value_in cell ≡ Ok v) where
   tests = by_tests (is_identifier cell.0 && is_null value-parts.0) (is_in_codes cell.0.codes value-parts.0) value-parts.0 v value-parts.2
 
   value-fits : FitsComponent cell.0 v
-  value-fits = subst (FitsComponent cell.0) tests.0 record { kind = fits cell.0.kind (text_in cell.1) value-parts.0 value-parts.1; codes = in_codes cell.0.codes value-parts.0 tests.2 }
+  value-fits = subst (FitsComponent cell.0) tests.0 record { kind = fits cell.0.kind (text_in cell.1) value-parts.0 value-parts.1; codes = tests.2 }
 
   identifier-fits : is_identifier cell.0 ≡ true → FitsIdentifier cell.0 v
   identifier-fits identifier = record { fits = value-fits; some = not_null cell.0 v identifier (subst (λ (u : Value). (is_identifier cell.0 && is_null u) ≡ false) tests.0 tests.1) }

@@ -1,16 +1,14 @@
 -- What the fields of a row give (docs/formats.md, "Judging").
 use Rattle.std.specs.Prelude.{ℕ, List, [], ◌∷◌, map, Bool, true, false, not, ◌&&◌, if◌then◌else◌, Option, Some, None, Result, Ok, Err}
-use Rattle.std.specs.List.{filter, list_any}
+use Rattle.std.specs.List.{filter}
 use Rattle.std.specs.Result.{result_map_both}
-use Rattle.vtl_values.specs.declared.structure.Codes.{Codes}
-use Rattle.vtl_values.specs.declared.structure.Codes.TheVariants.{Any, Listed}
 use Rattle.vtl_values.specs.declared.structure.Component.{Component}
 use Rattle.vtl_values.specs.declared.value.Value.{Value}
 use Rattle.vtl_values.specs.declared.value.Value.TheVariants.{Null, Truth, Integer, Number, Text}
-use Rattle.vtl_values.specs.Texts.{same_text, value_of}
+use Rattle.vtl_values.specs.Texts.{value_of}
 use Rattle.point_sets.specs.declared.revision.RawField.{RawField}
 use Rattle.point_sets.specs.declared.revision.RawField.TheVariants.{Empty, Given}
-use Rattle.structured_sets.specs.Fitting.{is_identifier}
+use Rattle.structured_sets.specs.Fitting.{is_identifier, is_in_codes}
 use Rattle.revision_judge.specs.declared.cause.Cause.{Cause}
 use Rattle.revision_judge.specs.declared.cause.Cause.TheVariants.{NullIdentifier, BadText, NotInCodes}
 use Rattle.revision_judge.specs.Steps.{◌>>=◌}
@@ -51,12 +49,6 @@ is_null (Truth b) = false
 is_null (Integer n) = false
 is_null (Number n) = false
 is_null (Text text) = false
-
--- a text is one of the codes
-abbrev pub is_in_codes : Codes → Value → Bool
-is_in_codes Any v = true
-is_in_codes (Listed codes) (Text text) = list_any (same_text text) codes
-is_in_codes (Listed codes) v = true
 
 -- the value, unless it is null in an identifier, or a text outside the code list
 abbrev pub fitting : Component → Value → Result Value Cause

@@ -1,16 +1,15 @@
 -- Judgements on revisions (docs/formats.md, "Judging").
-use Rattle.std.specs.Prelude.{◌≡◌, ◌≤◌, ℕ, List, [], map, fold, Option, Some, None, Result, Ok, Err, slice_get, slice_set, unwrap_or, option_map}
+use Rattle.std.specs.Prelude.{◌≡◌, ℕ, List, [], map, fold, Option, Some, None, Result, Ok, Err, slice_get, slice_set, unwrap_or, option_map}
 use Rattle.std.specs.List.{AllZip}
-use Rattle.std.specs.FinMap.{empty, len}
+use Rattle.std.specs.FinMap.{empty}
 use Rattle.vtl_values.specs.declared.structure.Component.{Component}
 use Rattle.vtl_values.specs.Structures.{NamedStructures, number_of}
 use Rattle.data_model.specs.Deltas.{Leads}
-use Rattle.data_model.specs.declared.TheConstants.{POINT_LIMIT}
 use Rattle.point_sets.specs.DataSets.{DataSet}
 use Rattle.point_sets.specs.Changes.{Changes}
 use Rattle.point_sets.specs.declared.revision.RawRow.{RawRow}
 use Rattle.point_sets.specs.declared.revision.Revision.{Revision}
-use Rattle.structured_sets.specs.Fitting.{IsSetOf}
+use Rattle.structured_sets.specs.Fitting.{IsBoundedSetOf}
 use Rattle.revision_judge.specs.declared.cause.Cause.TheVariants.{NoSuchSet}
 use Rattle.revision_judge.specs.declared.ruling.Refusal.{Refusal}
 use Rattle.revision_judge.specs.declared.ruling.Ruling.{Ruling}
@@ -48,14 +47,9 @@ judged_at structures inputs rows (Some n) = judgement_on n (rows_judged (compone
 abbrev pub judged : NamedStructures → List DataSet → Revision → Judgement
 judged structures inputs revision = judged_at structures inputs revision.rows (number_of structures revision.set)
 
--- a data set of the structure, within the limit of points
-pub record IsInput (named : List ℕ × List Component) (set : DataSet) : Type 0 where
-  pub fits : IsSetOf named.1 set
-  pub few : len set ≤ POINT_LIMIT
-
 -- one data set for each structure
 abbrev pub AreInputs : NamedStructures → List DataSet → Type 0
-AreInputs structures inputs = AllZip IsInput structures inputs
+AreInputs structures inputs = AllZip (λ named. IsBoundedSetOf named.1) structures inputs
 
 -- the data sets, with this one in the place of that with the number
 abbrev pub inputs_with : List DataSet → ℕ → DataSet → List DataSet

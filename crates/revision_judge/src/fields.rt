@@ -3,9 +3,9 @@ ghost use Rattle.std.specs.Prelude.{◌≡◌, ◌+◌, List, chars, IfOk, IfErr
 ghost use Rattle.std.specs.List.{list_any};
 ghost use Rattle.std.specs.Option.{option_copied};
 ghost use Rattle.vtl_values.specs.Texts.{same_text};
-ghost use Rattle.structured_sets.specs.Fitting.{is_identifier};
+ghost use Rattle.structured_sets.specs.Fitting.{is_identifier, is_in_codes};
 ghost use Rattle.revision_judge.specs.Fields as meant;
-ghost use Rattle.revision_judge.specs.Fields.{field_or_empty, fitting, text_in, is_in_codes, key_cells, rest_cells, key_fields};
+ghost use Rattle.revision_judge.specs.Fields.{field_or_empty, fitting, text_in, key_cells, rest_cells, key_fields};
 ghost use Rattle.revision_judge.specs.Stops.{Refuses};
 
 use crate::cause::Cause;

@@ -1,7 +1,7 @@
 // Productions.
 ghost use Rattle.std.specs.Prelude.{◌≡◌, ◌≢◌, ◌≤◌, ◌+◌, ◌↔◌, ℕ, true, false, [], IfOk, OnErr, Some, length};
 ghost use Rattle.checked_trees.specs.Scripts.{Script};
-ghost use Rattle.round_journal.specs.Journals.{State, NoneReady, IsOutBy, Legal, aside, verdict_on};
+ghost use Rattle.round_journal.specs.Journals.{State, Over, NoneReady, IsOutBy, Legal, aside, verdict_on};
 ghost use Rattle.round_journal.specs.Stands.{DoneStands};
 ghost use Rattle.round_journal.specs.Releases.{IsRelease};
 ghost use Rattle.round_core.specs.declared.limits.Full.{Full};
@@ -71,6 +71,7 @@ impl Production {
     pub fn journal(&self) -> &[Entry]
         ensures same { result.now ≡ self.now.journal }
         ensures legal { Legal self.now.script self.now.journal }
+        ensures live { ¬ (Over self.now.script (state_in self.now)) }
         ensures fits { length self.now.journal + aside self.now.script (state_in self.now) ≤ self.now.limits.entries }
         ensures fields_fit { (state_in self.now).fields ≤ self.now.limits.fields }
     {

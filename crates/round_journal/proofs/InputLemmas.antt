@@ -78,7 +78,7 @@ pub AreInputs-judged : (structures : NamedStructures) (xs : List DataSet) → Ar
 AreInputs-judged [] [] h = tt
 AreInputs-judged [] (x ∷ xs) h = absurd h
 AreInputs-judged (named ∷ structures) [] h = absurd h
-AreInputs-judged (named ∷ structures) (x ∷ xs) h = ((h.0.fits, h.0.few), AreInputs-judged structures xs h.1)
+AreInputs-judged (named ∷ structures) (x ∷ xs) h = (h.0, AreInputs-judged structures xs h.1)
 
 pub AreInputs-at : (c : Script) (n : ℕ) (s : State) → AreInputs c (inputs c n s)
 AreInputs-at c n s = AreInputs-judged c.inputs (inputs c n s) (inputs_after-fit c.inputs (take n s.accepted))

@@ -1,7 +1,6 @@
 pub mod PlainLemmas
 pub mod SettleLemmas
 pub mod NodeLemmas
-pub mod CountLemmas
 pub mod RuleLemmas
 pub mod WorkLemmas
 pub mod TreeLemmas

@@ -60,7 +60,7 @@ few_at : (n : ℕ) (ts : List (List Component)) (ys : List DataSet) → AreOpera
 few_at n [] [] h = let none = len-empty key_cmp (List Value) in omega (arith, none)
 few_at n [] (y ∷ ys) h = absurd h
 few_at n (t ∷ ts) [] h = absurd h
-few_at zero (t ∷ ts) (y ∷ ys) h = h.0.1
+few_at zero (t ∷ ts) (y ∷ ys) h = h.0.few
 few_at (suc n) (t ∷ ts) (y ∷ ys) h = few_at n ts ys h.1
 
 -- what is held, with the patches as contents, is what is wanted of the operands after the news
@@ -153,7 +153,7 @@ module _ (rule : Rule) (held : List Holding) (news : List Changes) (before : ℕ
       let leads = m.leads in
       let count : len m.new ≡ w.points = ap len (sym leads.ends) ∙ len-apply-count key_cmp-IsTotalOrder key_cmp-IsAntisymmetric d work.holds.made before leads.begins work.holds.count ∙ sym points in
       let fit = meaning_of-fits (operator_of rule) ys m.new work.typed work.new_fit m.gives in
-      let few = fit.1 in
+      let few = fit.few in
       let wants : List Want = wanted_of rule in
       let below = wanted_below rule work.typed in
       let sets : map (holding_of ys) wants ≡ patched held w.patches.items =

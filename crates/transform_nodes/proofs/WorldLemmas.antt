@@ -16,7 +16,7 @@ use Rattle.checked_trees.specs.declared.tree.Source.TheVariants.{Input, Result a
 use Rattle.checked_trees.specs.Expressions.{Expression, Expressions, Named, Applied, expression_of, renamed, all_renamed, none as no_operand, more as operand_and}
 use Rattle.checked_trees.specs.Scripts.{Script, IsChecked, is_same, names_in, names_of, once_each, sources_of, structure_of_source}
 use Rattle.checked_trees.specs.Typing.{HasStructure, HaveStructures}
-use Rattle.operator_meaning.specs.Operators.{IsOperand}
+use Rattle.structured_sets.specs.Fitting.{IsBoundedSetOf}
 use Rattle.operator_meaning.specs.Results.{Evaluated, worked, gathered, result_of, results_of}
 use Rattle.operator_meaning.specs.Scripts.{State, Has, Idle, state_of, set_in, states, worked_out}
 use Rattle.operator_meaning.proofs.EmptyLemmas.{list_all-true, typed_statement}
@@ -98,10 +98,10 @@ abbrev pub structure_at : Script → List Source → ℕ → Option (List Compon
 structure_at s sources n = option_and_then (structure_of_source s) (slice_get sources n)
 
 module _ (s : Script) (checked : IsChecked s) (sources : List Source) where
-  pub numbered-fits : (xs : List DataSet) → AreInputs s xs → (n : ℕ) (t : List Component) → structure_at s sources n ≡ Some t → IsOperand t (numbered s xs sources n)
-  numbered-fits xs inputs n t e = subst (λ (x : DataSet). IsOperand t x) (sym (numbered-map (operand_on s xs) sources n)) (by_source (slice_get sources n) e)
+  pub numbered-fits : (xs : List DataSet) → AreInputs s xs → (n : ℕ) (t : List Component) → structure_at s sources n ≡ Some t → IsBoundedSetOf t (numbered s xs sources n)
+  numbered-fits xs inputs n t e = subst (λ (x : DataSet). IsBoundedSetOf t x) (sym (numbered-map (operand_on s xs) sources n)) (by_source (slice_get sources n) e)
     where
-      by_source : (o : Option Source) → option_and_then (structure_of_source s) o ≡ Some t → IsOperand t (unwrap_or (option_map (operand_on s xs) o) empty)
+      by_source : (o : Option Source) → option_and_then (structure_of_source s) o ≡ Some t → IsBoundedSetOf t (unwrap_or (option_map (operand_on s xs) o) empty)
       by_source None e = cc
       by_source (Some source) e = named-fits s xs checked inputs (states s xs) (states-fit s xs checked inputs) source t e
 

@@ -12,7 +12,8 @@ use Rattle.point_sets.specs.DataSets.{DataSet}
 use Rattle.point_sets.specs.Changes.{Changes}
 use Rattle.checked_trees.specs.Operators.{IsTyped}
 use Rattle.checked_trees.specs.Typing.{HasStructure, HaveStructures}
-use Rattle.operator_meaning.specs.Operators.{meaning_of, IsOperand, AreOperands}
+use Rattle.operator_meaning.specs.Operators.{meaning_of, AreOperands}
+use Rattle.structured_sets.specs.Fitting.{IsBoundedSetOf}
 use Rattle.operator_meaning.specs.Results.{Evaluated, sets_of, points_of, placed, result_of, results_of}
 use Rattle.held_index.specs.Holdings.{Holding}
 use Rattle.held_index.specs.declared.want.Want.{Want}
@@ -83,8 +84,8 @@ pub record Moves (news : List Changes) : Type 0 where
   pub structures : ℕ → Option (List Component)
   pub old : ℕ → DataSet
   pub new : ℕ → DataSet
-  pub old_fit : (n : ℕ) (t : List Component) → structures n ≡ Some t → IsOperand t (old n)
-  pub new_fit : (n : ℕ) (t : List Component) → structures n ≡ Some t → IsOperand t (new n)
+  pub old_fit : (n : ℕ) (t : List Component) → structures n ≡ Some t → IsBoundedSetOf t (old n)
+  pub new_fit : (n : ℕ) (t : List Component) → structures n ≡ Some t → IsBoundedSetOf t (new n)
   pub lead : (n : ℕ) → n < length news → Leads (news_of n news) (old n) (new n)
 
 -- the tree is well typed over the sources, and stands for their old data sets

@@ -27,44 +27,6 @@ pub(crate) struct Worked {
     pub(crate) points: u64,
 }
 
-/// How many points the changes bring.
-fn gains(changes: &[Change]) -> u64
-    ensures value { result ≡ count_by (λ c. is_none c.old && is_some c.new) changes.now }
-    ensures few { result ≤ length changes.now }
-{
-    let mut count: u64 = 0;
-    for change in changes {
-        if change.old.is_none() && change.new.is_some() {
-            count += 1;
-        }
-    }
-    count
-}
-
-/// How many points the changes take away.
-fn losses(changes: &[Change]) -> u64
-    ensures value { result ≡ count_by (λ c. is_some c.old && is_none c.new) changes.now }
-    ensures few { result ≤ length changes.now }
-{
-    let mut count: u64 = 0;
-    for change in changes {
-        if change.old.is_some() && change.new.is_none() {
-            count += 1;
-        }
-    }
-    count
-}
-
-/// How many points there are after a delta, of so many before.
-fn points_after(before: u64, delta: &Delta) -> u64
-    requires { before ≤ POINT_LIMIT }
-    ensures { result ≡ count_after before delta.now }
-{
-    let changes = delta.changes();
-    let most = before + gains(changes);
-    most.saturating_sub(losses(changes))
-}
-
 /// What the held operands will be after the news.
 fn plan_all(
     alloc: Global,
@@ -105,7 +67,7 @@ pub(crate) fn work<R: Threads + Sync, L: Ledger>(
 {
     match rule.delta(rt, alloc, before, held, news, steps) {
         Ok(delta) => {
-            let points = points_after(before, &delta);
+            let points = delta.count_after(before);
             let patches = plan_all(alloc, rule.wants(), held, news)?;
             match Arc::new(alloc, delta) {
                 Ok(delta) => Ok(Worked {

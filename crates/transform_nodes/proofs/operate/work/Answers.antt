@@ -26,10 +26,10 @@ returns-in-Ok-new g c = λ zs ys work.
     let held = c.args.held.now in
     let news = map arc_value c.args.news.now in
     let before = c.args.before in
-    work_right rule held news before zs ys work (record { delta = c.in-Ok-new.delta; patches = c.in_ok-patches-in-Ok.patches; points = c.points_after-points.result }) c.in-Ok.delta
+    work_right rule held news before zs ys work (record { delta = c.in-Ok-new.delta; patches = c.in_ok-patches-in-Ok.patches; points = c.count_after-points.result }) c.in-Ok.delta
     (length-map c.args.news.now arc_value ∙ c.requires.news) (c.in-Ok.ensures zs work.holds.made (asked rule held news before zs ys work)) c.in-Ok-new.ensures.ok
     (c.in_ok-patches-in-Ok.ensures ∙ ap (λ (ws : List Want). planned ws held news) c.wants.ensures)
-    c.points_after-points.ensures
+    c.count_after-points.ensures
 
 pub returns-in-Err : goal.returns-in-Err
 returns-in-Err g c = λ zs ys work.

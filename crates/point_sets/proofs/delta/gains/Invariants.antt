@@ -1,6 +1,6 @@
 use Rattle.std.proofs.Common.{◌≡◌, ◌≤◌, ◌&&◌, take}
 use Rattle.std.specs.Prelude.{count_by, is_some, is_none}
-use Rattle.held_index.proofs.draft.gains.Given as goal
+use Rattle.point_sets.proofs.delta.gains.Given as goal
 
 abbrev pub invariant-loop-change : goal.invariant-loop-change
 invariant-loop-change l = record {
