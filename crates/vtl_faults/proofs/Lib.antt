@@ -1,0 +1,3 @@
+pub mod LeftOut
+pub mod Rightly
+pub mod WordTests

@@ -1,0 +1,4 @@
+pub mod Tokens
+pub mod Spellings
+pub mod Layouts
+pub mod Laws
