@@ -1,16 +1,17 @@
 -- How a run of stages goes on, and what its end did.
-use Rattle.std.proofs.Common.{◌≡◌, ◌∙◌, ◌⊎◌, ℕ, List, [], ◌∷◌, Result, Ok, Err, IsOk, IsErrAnd, refl, sym, ap, subst, arith, inl, inr, ⊎_elim, Contains, ◌≤◌, ◌<◌}
+use Rattle.std.proofs.Common.{◌≡◌, ◌≢◌, ◌∙◌, ◌++◌, ◌⊎◌, ℕ, List, [], ◌∷◌, Result, Ok, Err, IsOk, IsErrAnd, refl, sym, ap, subst, arith, inl, inr, ⊎_elim, Contains, ◌≤◌, ◌<◌}
 use Rattle.outside.specs.declared.sink.SinkStop.{SinkStop}
 use Rattle.outside.specs.declared.sink.SinkStop.TheVariants.{Failed, Memory}
 use Rattle.outside.specs.Counts.{Rose}
 use Rattle.outside.specs.Shelves.{Files, ShelfView, Told}
-use Rattle.outside.specs.Sinks.{SinkView, Took, Wrote}
-use Rattle.outside.proofs.Writes.{took_as, took_none}
+use Rattle.outside.specs.Sinks.{SinkView, Took, Wrote, Extends}
+use Rattle.outside.proofs.Writes.{took_as, took_none, extends_then, from_start}
 use Rattle.vtlprod.specs.declared.stop.Stop.{Stop}
 use Rattle.vtlprod.specs.declared.stop.Stop.TheVariants.{Ended}
 use Rattle.vtlprod.specs.declared.stop.Stop.TheVariants as stop
 use Rattle.vtlprod.specs.declared.reading.TheConstants.{SCRIPT_LIMIT}
 use Rattle.vtlprod.specs.Stages.{Answer, Stage}
+use Rattle.vtlprod.specs.Eval.{behind}
 use Rattle.vtlprod.specs.Lines.{unread}
 use Rattle.vtlprod.specs.Ends.{told_by, Fault, HasCause, EndsWith, Ends, Stands, How, Did}
 use Rattle.vtlprod.specs.Views.{status_of}
@@ -34,7 +35,7 @@ ends_later {B} {C} names wider old mid new (Ended e) stage whole files later nam
       (λ (x : Fault names mid new × (told_by e ≡ unread new.last)). inr (fault_later later named x.0, x.1))
       (ends.meant f (files ∙ told));
   cause = λ two. ⊎_elim (λ (x : Fault names mid new). inl (fault_later later named x)) (λ (x : SCRIPT_LIMIT < new.kept). inr x) (ends.cause two);
-  below = ends.below;
+  early = ends.early;
 }
 ends_later names wider old mid new stop.Memory stage whole files later named passes ends = tt
 
@@ -82,3 +83,23 @@ second_named a b c x = contains_one (a ∷ b ∷ c ∷ []) x (1, omega arith, re
 
 pub third_named : (a b c x : List ℕ) → Contains (c ∷ []) x → Contains (a ∷ b ∷ c ∷ []) x
 third_named a b c x = contains_one (a ∷ b ∷ c ∷ []) x (2, omega arith, refl)
+
+-- status 6 comes of a fault alone
+pub rose_at_6 : (old new : SinkView) (r : Result (Unit {0}) SinkStop) (text : List ℕ) (status : ℕ) → status < 6 → Wrote old new r text → status_of r status ≡ 6 → Rose old.faults new.faults
+rose_at_6 old new (Ok u) text status below w six = absurd (omega (arith, below, six))
+rose_at_6 old new (Err Failed) text status below w six = w.failed refl
+rose_at_6 old new (Err Memory) text status below w six = absurd (omega (arith, six))
+
+-- no write gives status 2
+pub never_2 : (r : Result (Unit {0}) SinkStop) (status : ℕ) → status ≢ 2 → status_of r status ≢ 2
+never_2 (Ok u) status other two = other two
+never_2 (Err Failed) status other two = absurd (omega (arith, two))
+never_2 (Err Memory) status other two = absurd (omega (arith, two))
+
+-- a text behind another was written
+pub did_behind : (old mid new : SinkView) (r s : Result (Unit {0}) SinkStop) (lines text : List ℕ) (status now : ℕ) (meant : Answer)
+    → Extends old mid (Ok tt) r lines → Extends mid new r s text → now ≡ status_of s status → meant ≡ record { status = status; text = text } → Did old new (behind lines meant) now
+did_behind old mid new r s lines text status now meant first second is same = did_as (from_start (extends_then lines text first second)) is (ap (behind lines) same)
+
+pub wrote_behind : (old mid new : SinkView) (r s : Result (Unit {0}) SinkStop) (lines text : List ℕ) → Extends old mid (Ok tt) r lines → Extends mid new r s text → Wrote old new s (lines ++ text)
+wrote_behind old mid new r s lines text first second = from_start (extends_then lines text first second)

@@ -33,11 +33,15 @@ pub record Fault (names : List (List ℕ)) (old new : ShelfView) : Type 0 where
 abbrev pub HasCause : List (List ℕ) → ShelfView → ShelfView → ℕ → Type 0
 HasCause names old new status = status ≡ 2 → Fault names old new ⊎ (SCRIPT_LIMIT < new.kept)
 
--- the end of a stage: the stage's own answer or the line of a fault, with a status that no sink gives
+-- a status before the run: neither a run's nor a sink's
+abbrev pub IsEarlyStatus : ℕ → Type 0
+IsEarlyStatus status = (0 < status) × (status < 5)
+
+-- the end of a stage: the stage's own answer or the line of a fault, with a status before the run
 pub record EndsWith {B : Type 0} (names : List (List ℕ)) (old new : ShelfView) (end : Answer) (stage : Files → Stage B) : Type 0 where
   pub meant : Told old.files (λ files. (stage files ≡ Err end) ⊎ (Fault names old new × (end ≡ unread new.last)))
   pub cause : HasCause names old new end.status
-  pub below : end.status < 6
+  pub early : IsEarlyStatus end.status
 
 abbrev pub Ends : {B : Type 0} → List (List ℕ) → ShelfView → ShelfView → Stop → (Files → Stage B) → Type 0
 Ends names old new (Ended e) stage = EndsWith names old new (told_by e) stage
@@ -59,3 +63,13 @@ How old new meant status =
 
 pub record Did (old new : SinkView) (meant : Answer) (status : ℕ) : Type 0 where
   pub how : How old new meant status
+
+-- an end has a status before the run
+abbrev pub IsEarly : Stop → Type 0
+IsEarly (Ended e) = IsEarlyStatus e.status
+IsEarly Memory = Unit {0}
+
+-- what the call did of an end before the run
+abbrev pub EndedSo : SinkView → SinkView → Stop → ℕ → Type 0
+EndedSo old new (Ended e) status = Did old new (told_by e) status
+EndedSo old new Memory status = (new ≡ old) × (status ≡ 7)

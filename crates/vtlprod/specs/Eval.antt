@@ -1,87 +1,75 @@
 -- What `eval` writes for the revisions of its feed (docs/formats.md, "Output").
-use Rattle.std.specs.Prelude.{◌==◌, ℕ, zero, suc, List, [], ◌∷◌, ◌++◌, codes, fold, length, if◌then◌else◌}
-use Rattle.std.specs.FinMap.{empty, insert}
-use Rattle.vtl_values.specs.declared.kind.Kind.TheVariants as kind
-use Rattle.vtl_values.specs.declared.kind.Role.TheVariants as role
-use Rattle.vtl_values.specs.declared.structure.Codes.TheVariants as code_list
-use Rattle.vtl_values.specs.declared.structure.Component.{Component}
-use Rattle.vtl_values.specs.declared.value.Value.{Value}
-use Rattle.vtl_values.specs.declared.value.Value.TheVariants.{Text, Number}
-use Rattle.vtl_values.specs.Order.{key_cmp}
-use Rattle.data_model.specs.Outcomes.{Outcome, Made, Range, TooMany}
-use Rattle.point_sets.specs.DataSets.{DataSet}
-use Rattle.plain_forms.specs.declared.block.Block.{Block}
-use Rattle.plain_forms.specs.declared.block.Input.{Input}
-use Rattle.plain_forms.specs.declared.block.Input.TheVariants.{A, B}
-use Rattle.plain_forms.specs.declared.row.Row.{Row}
-use Rattle.operator_meaning.specs.Sums.{sum}
-use Rattle.release_text.specs.Releases.{Page, release}
+use Rattle.std.specs.Prelude.{ℕ, ◌+◌, List, [], ◌∷◌, ◌++◌, Option, Some, None, fold, length, slice_get}
+use Rattle.point_sets.specs.declared.revision.Revision.{Revision}
+use Rattle.checked_trees.specs.declared.script.CheckedStatement.{CheckedStatement}
+use Rattle.checked_trees.specs.Scripts.{Script}
+use Rattle.operator_meaning.specs.Results.{Wrong, RangeAt, ManyAt}
+use Rattle.operator_meaning.specs.Scripts.{ScriptWrong, At, Total, script_wrong}
+use Rattle.release_text.specs.Releases.{release}
+use Rattle.revision_judge.specs.Judging.{judged, inputs_after}
+use Rattle.round_journal.specs.Journals.{accepted_after, verdict_for}
+use Rattle.round_journal.specs.Releases.{pages_on}
+use Rattle.round_journal.specs.declared.verdict.Verdict.{Verdict}
 use Rattle.vtlprod.specs.Stages.{Answer}
-use Rattle.vtlprod.specs.Lines.{accepted, failed_at, range_key, too_many_points}
+use Rattle.vtlprod.specs.Lines.{verdict_line, failed_at, range_key, too_many_points, total_points}
 
--- the input data sets
-pub record Inputs : Type 0 where
-  pub a : DataSet
-  pub b : DataSet
+-- the revisions that were accepted so far, and the lines of the verdicts
+pub record Judging : Type 0 where
+  pub accepted : List Revision
+  pub text : List ℕ
 
--- before any revision they are empty
-abbrev pub no_inputs : Inputs
-no_inputs = record { a = empty; b = empty }
+-- nothing was judged yet
+abbrev pub at_first : Judging
+at_first = record { accepted = []; text = [] }
 
--- a put sets its key's point
-abbrev pub put_row : DataSet → Row → DataSet
-put_row set row = insert set (Text row.key ∷ []) (Number row.number ∷ [])
+-- the verdict on a revision, where these were accepted before it
+abbrev pub verdict_after : Script → List Revision → Revision → Verdict
+verdict_after c accepted r = verdict_for r (length accepted + 1) (judged c.inputs (inputs_after c.inputs accepted) r)
 
-abbrev pub put_rows : DataSet → List Row → DataSet
-put_rows set rows = fold put_row set rows
+-- one revision more, and the line of its verdict
+abbrev pub judge_next : Script → Judging → Revision → Judging
+judge_next c j r =
+    let v = verdict_after c j.accepted r in
+    record { accepted = accepted_after j.accepted r v; text = j.text ++ verdict_line v }
 
--- a block is a revision of one input
-abbrev pub put_block : Inputs → Block → Inputs
-put_block inputs block = into block.input
-  where
-    into : Input → Inputs
-    into A = record { a = put_rows inputs.a block.rows; b = inputs.b }
-    into B = record { a = inputs.a; b = put_rows inputs.b block.rows }
+-- the revisions of a feed, in order
+abbrev pub judge_all : Script → List Revision → Judging
+judge_all c revisions = fold (judge_next c) at_first revisions
 
--- the inputs after the revisions, each of which is accepted
-abbrev pub inputs_after : List Block → Inputs
-inputs_after blocks = fold put_block no_inputs blocks
+-- the name of a statement
+abbrev pub name_in : Option CheckedStatement → List ℕ
+name_in None = []
+name_in (Some statement) = statement.name
 
--- the verdicts on the first n revisions: each is accepted, with its number as the receipt
-abbrev pub verdicts : ℕ → List ℕ
-verdicts zero = []
-verdicts (suc n) = verdicts n ++ accepted (suc n)
+abbrev pub name_of : Script → ℕ → List ℕ
+name_of c i = name_in (slice_get c.statements i)
 
--- the result R: the identifier of the operands, and the measure
-abbrev pub result_components : List Component
-result_components =
-    record { name = codes "Id"; role = role.Identifier; kind = kind.Text; codes = code_list.Any }
-    ∷ record { name = codes "Me"; role = role.Measure; kind = kind.Number; codes = code_list.Any } ∷ []
+-- the line of a failed round
+abbrev pub wrong_line : ℕ → List ℕ → Wrong → List ℕ
+wrong_line prefix name (RangeAt place key) = failed_at prefix name place.line place.column ++ range_key key
+wrong_line prefix name (ManyAt place) = failed_at prefix name place.line place.column ++ too_many_points
 
--- its name
-abbrev pub RESULT : List ℕ
-RESULT = codes "R"
+abbrev pub failed_line : Script → ℕ → ScriptWrong → List ℕ
+failed_line c prefix (At i wrong) = wrong_line prefix (name_of c i) wrong
+failed_line c prefix (Total points) = total_points prefix points
 
-abbrev pub result_page : DataSet → Page
-result_page set = record { name = RESULT; components = result_components; set = set }
+-- the release of this number on the accepted revisions, or the line of the round that failed
+abbrev pub answer_on : Script → ℕ → List Revision → Option ScriptWrong → Answer
+answer_on c number accepted None = record { status = 0; text = release number (length accepted) (pages_on c (inputs_after c.inputs accepted)) }
+answer_on c number accepted (Some wrong) = record { status = 5; text = failed_line c (length accepted) wrong }
 
--- the release, or the line of the round that failed; the sign `+` of the statement stands at line 1, column 8
-abbrev pub round_of : ℕ → ℕ → Outcome key_cmp (List Value) → Answer
-round_of number prefix (Made set) = record { status = 0; text = release number prefix (result_page set ∷ []) }
-round_of number prefix (Range key) = record { status = 5; text = failed_at prefix RESULT 1 8 ++ range_key key }
-round_of number prefix TooMany = record { status = 5; text = failed_at prefix RESULT 1 8 ++ too_many_points }
+abbrev pub round_of : Script → ℕ → List Revision → Answer
+round_of c number accepted = answer_on c number accepted (script_wrong c (inputs_after c.inputs accepted))
+
+-- where nothing was accepted it is release 0; else the one round makes release 1
+abbrev pub end_of : Script → List Revision → Answer
+end_of c [] = round_of c 0 []
+end_of c (r ∷ rs) = round_of c 1 (r ∷ rs)
 
 -- a text, and behind it what is answered
 abbrev pub behind : List ℕ → Answer → Answer
 behind text end = record { status = end.status; text = text ++ end.text }
 
--- release 0 is that of no revision; the one round makes release 1
-abbrev pub number_at : ℕ → ℕ
-number_at prefix = if prefix == 0 then 0 else 1
-
--- the verdicts, and then release 0 if nothing was accepted, or else what the one round over all revisions gives
-abbrev pub eval : List Block → Answer
-eval blocks =
-    let inputs = inputs_after blocks in
-    let prefix = length blocks in
-    behind (verdicts prefix) (round_of (number_at prefix) prefix (sum inputs.a inputs.b))
+-- the lines of the verdicts, and then the release, or the line of the round that failed, on all accepted revisions
+abbrev pub eval : Script → List Revision → Answer
+eval c revisions = behind (judge_all c revisions).text (end_of c (judge_all c revisions).accepted)

@@ -1,6 +1,5 @@
 -- The stage of the fixed forms.
 use Rattle.std.specs.Prelude.{ℕ, Bool, ◌||◌, List, ◌++◌, codes, bytes_eq}
-use Rattle.plain_forms.specs.Forms.{SCRIPT, STRUCTURES}
 
 -- the bytes are this text, with or without one line end behind it
 abbrev pub is_form : List ℕ → List ℕ → Bool

@@ -4,6 +4,8 @@ pub mod Forms
 pub mod Lines
 pub mod Output
 pub mod Reading
+pub mod Rounds
+pub mod Runs
 pub mod Stages
 pub mod Views
 pub mod Words

@@ -1,42 +1,59 @@
 -- What the program writes, and the status it ends with, for its words and the files.
-use Rattle.std.specs.Prelude.{ℕ, List, Option, Some, None, Ok, Err}
+use Rattle.std.specs.Prelude.{ℕ, List, map, Option, Some, None, Ok, Err}
 use Rattle.outside.specs.Shelves.{Files}
+use Rattle.checked_trees.specs.Scripts.{Script}
+use Rattle.point_sets.specs.declared.revision.Revision.{Revision}
 use Rattle.plain_forms.specs.declared.block.Block.{Block}
 use Rattle.plain_forms.specs.Feeds.{plain_feed}
-use Rattle.plain_forms.specs.Forms.{SCRIPT, STRUCTURES}
+use Rattle.plain_forms.specs.Forms.{STRUCTURES}
+use Rattle.plain_forms.specs.Revisions.{revision_of}
+use Rattle.plain_scripts.specs.Scripts.{plain_script}
+use Rattle.round_core.specs.Seen.{Seen}
 use Rattle.vtlprod.specs.Stages.{Answer, Stage, after, passed, answer}
 use Rattle.vtlprod.specs.Lines.{not_built}
 use Rattle.vtlprod.specs.Forms.{is_form}
 use Rattle.vtlprod.specs.Reading.{EvalBytes, bytes_of}
 use Rattle.vtlprod.specs.Eval.{eval}
+use Rattle.vtlprod.specs.Runs.{IsRunOf}
 
 -- what a command does once its words and files are taken
 pub data Run : Type 0 where
-  Eval : List Block → Run
+  Eval : Script → List Revision → Run
+
+-- what is read from a text, where it has the form
+abbrev pub built : {A : Type 0} → Option A → Stage A
+built None = Err not_built
+built (Some a) = Ok a
+
+-- a plain script
+abbrev pub script_of : List ℕ → Stage Script
+script_of bytes = built (plain_script bytes)
 
 -- the revisions of a plain feed
-abbrev pub revisions : List ℕ → Stage (List Block)
-revisions bytes = plain (plain_feed bytes)
-  where
-    plain : Option (List Block) → Stage (List Block)
-    plain None = Err not_built
-    plain (Some blocks) = Ok blocks
+abbrev pub revisions_of : List ℕ → Stage (List Revision)
+revisions_of bytes = after (built (plain_feed bytes)) (λ blocks. Ok (map revision_of blocks))
 
 -- the forms of the script, the structures and the feed, in this order
-abbrev pub forms_of : EvalBytes → Stage (List Block)
+abbrev pub forms_of : EvalBytes → Stage Run
 forms_of bytes =
-    after (passed (is_form SCRIPT bytes.script) not_built) (λ _.
+    after (script_of bytes.script) (λ script.
     after (passed (is_form STRUCTURES bytes.structures) not_built) (λ _.
-    revisions bytes.feed))
+    after (revisions_of bytes.feed) (λ revisions.
+    Ok (Eval script revisions))))
 
 -- the stages before the run, in order: the words, the files, and the forms
 abbrev pub ready : List (List ℕ) → Files → Stage Run
-ready words files = after (bytes_of words files) (λ bytes. after (forms_of bytes) (λ blocks. Ok (Eval blocks)))
+ready words files = after (bytes_of words files) forms_of
 
 -- what a run writes, and its status
 abbrev pub answer_of : Run → Answer
-answer_of (Eval blocks) = eval blocks
+answer_of (Eval script revisions) = eval script revisions
 
 -- all stages, and behind them the run
 abbrev pub output : List (List ℕ) → Files → Answer
 output words files = answer (after (ready words files) (λ run. Ok (answer_of run)))
+
+-- the production of the run that the stages come to
+abbrev pub IsProductionOf : Stage Run → Seen → Type 0
+IsProductionOf (Ok (Eval script revisions)) p = IsRunOf script revisions p
+IsProductionOf (Err end) p = ⊥

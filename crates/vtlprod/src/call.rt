@@ -1,21 +1,25 @@
 // The top call.
-ghost use Rattle.std.specs.Prelude.{◌≡◌, ◌≢◌, ◌⊎◌, map, string_bytes, IsErr, IsErrAnd};
+ghost use Rattle.std.specs.Prelude.{◌≡◌, ◌≢◌, ◌⊎◌, map, string_bytes, IsErr, IsErrAnd, IfOk, IfSome, IsSome, None};
+ghost use Rattle.std.specs.Thread.{IsSync};
 ghost use Rattle.outside.specs.Counts.{Rose};
 ghost use Rattle.outside.specs.Shelves.{Told};
 ghost use Rattle.vtlprod.specs.Eval as meant;
-ghost use Rattle.vtlprod.specs.Ends.{Fault, Gives, HasCause, Stands, Did};
+ghost use Rattle.vtlprod.specs.Eval.{behind};
+ghost use Rattle.vtlprod.specs.Ends.{Fault, Gives, HasCause, Stands, Did, EndedSo, IsEarly};
 ghost use Rattle.vtlprod.specs.Lines.{not_built, unread};
-ghost use Rattle.vtlprod.specs.Output.{output, ready};
+ghost use Rattle.vtlprod.specs.Output.{output, ready, IsProductionOf};
+ghost use Rattle.vtlprod.specs.Runs.{LIMITS, IsFew, IsRunOf, WritesEnd};
+ghost use Rattle.vtlprod.specs.Stages.{Answer};
 ghost use Rattle.vtlprod.specs.Views.{run_of, status_of};
 ghost use Rattle.vtlprod.specs.Words.{command_of, files_named};
 
-use crate::eval::eval;
-use crate::forms::read_forms;
+use crate::eval::{End, Ran, eval};
+use crate::forms::{EvalInput, read_forms};
 use crate::reading::read_files;
 use crate::stop::Stop;
 use crate::words::command;
-use outside::{Gate, Shelf, Sink, SinkStop};
-use plain_forms::Block;
+use outside::{Gate, Shelf, Sink, SinkStop, put};
+use round_core::Production;
 use std::alloc::Global;
 use std::marker::Sync;
 use std::sync::Wait;
@@ -27,12 +31,15 @@ pub struct Outcome {
     /// 0 where all went well; 2 for a file that can't be read or is too long, 4 for what isn't built yet, 5 for a round
     /// that failed, 6 for a write that failed, 7 for want of memory.
     pub status: u8,
+    /// Where the run came to its end, the production that it ran on.
+    pub production: Option<Production>,
 }
 
 // All stages before the run.
-fn gathered<S: Shelf>(alloc: Global, words: &Vec<String>, shelf: &mut S) -> Result<Vec<Block>, Stop>
+fn gathered<S: Shelf>(alloc: Global, words: &Vec<String>, shelf: &mut S) -> Result<EvalInput, Stop>
     ensures stage { Stands run_of (files_named (command_of (map string_bytes words.now.items)))
         (S.view shelf.old) (S.view shelf.new) result (ready (map string_bytes words.now.items)) }
+    ensures few { IfOk result (λ input. IsFew input.revisions.items) }
     ensures words { IsErr (command_of (map string_bytes words.now.items)) → IsErrAnd result (λ stop. Gives stop not_built) }
 {
     let eval = command(alloc, words)?;
@@ -51,15 +58,60 @@ fn status_after(written: Result<(), SinkStop>, status: u8) -> u8
     }
 }
 
-// The run over the revisions of a feed.
-fn run<K: Sink>(alloc: Global, out: &mut K, blocks: &[Block]) -> u8
-    ensures did { Did (K.view out.old) (K.view out.new) (meant.eval blocks.now) result }
+// Writes the lines of a run, and then its end.
+fn write_run<K: Sink>(out: &mut K, ran: &Ran) -> u8
+    ensures did { (meant : Answer) → WritesEnd ran.now.production ran.now.end meant → Did (K.view out.old) (K.view out.new) (behind ran.now.lines.items meant) result }
     ensures write { result ≡ 6 → Rose (K.view out.old).faults (K.view out.new).faults }
     ensures cause { result ≢ 2 }
 {
-    match eval(alloc, blocks) {
-        Ok(answer) => status_after(out.write(&answer.text), answer.status),
-        Err(_) => 7,
+    let written = put(out, Ok(()), ran.lines.as_slice());
+    match &ran.end {
+        End::Released => status_after(ran.production.latest().write_to(out, written), 0),
+        End::Failed(line) => status_after(put(out, written, line.as_slice()), 5),
+    }
+}
+
+// The run of a script over revisions. Its production is handed back where it came to its end.
+fn run<R: Threads + Sync, K: Sink>(rt: &R, alloc: Global, out: &mut K, input: EvalInput) -> Outcome
+    requires few { IsFew input.revisions.items }
+    requires sync { IsSync R.row }
+    ensures did { Did (K.view out.old) (K.view out.new) (meant.eval input.script input.revisions.items) result.status }
+    ensures write { result.status ≡ 6 → Rose (K.view out.old).faults (K.view out.new).faults }
+    ensures cause { result.status ≢ 2 }
+    ensures production { IfSome result.production (IsRunOf input.script input.revisions.items) }
+    ensures handed_back { result.status ≢ 7 → IsSome result.production }
+{
+    match eval(rt, alloc, input.script, input.revisions) {
+        Ok(ran) => {
+            let status = write_run(out, &ran);
+            Outcome {
+                status,
+                production: Some(ran.production),
+            }
+        }
+        Err(_) => Outcome {
+            status: 7,
+            production: None,
+        },
+    }
+}
+
+// The outcome of a command that ended before its run.
+fn ended<K: Sink>(out: &mut K, stop: Stop) -> Outcome
+    requires { IsEarly stop }
+    ensures did { EndedSo (K.view out.old) (K.view out.new) stop result.status }
+    ensures write { result.status ≡ 6 → Rose (K.view out.old).faults (K.view out.new).faults }
+    ensures production { result.production ≡ None }
+{
+    match stop {
+        Stop::Ended(end) => Outcome {
+            status: status_after(out.write(&end.line), end.status),
+            production: None,
+        },
+        Stop::Memory => Outcome {
+            status: 7,
+            production: None,
+        },
     }
 }
 
@@ -88,13 +140,17 @@ pub fn run_vtlprod<R: AllocGlobal + Threads + Wait + Sync, S: Shelf, K: Sink, G:
     ensures write { result.status ≡ 6 → Rose (K.view out.old).faults (K.view out.new).faults }
     ensures words { IsErr (command_of (map string_bytes words.now.items)) →
         Did (K.view out.old) (K.view out.new) not_built result.status }
+
+    // Of the production: its limits, and where the shelf tells its bytes, its script and its journal.
+    ensures limits { IfSome result.production (λ p. p.limits ≡ LIMITS) }
+    ensures production { Told (S.view shelf.old).files (λ files.
+        IfSome result.production (IsProductionOf (ready (map string_bytes words.now.items) files))) }
+    ensures handed_back { (result.status ≡ 0) ⊎ (result.status ≡ 5) → IsSome result.production }
 {
     let _ = gate;
     let alloc = rt.alloc();
-    let status = match gathered(alloc, words, shelf) {
-        Ok(blocks) => run(alloc, out, blocks.as_slice()),
-        Err(Stop::Ended(end)) => status_after(out.write(&end.line), end.status),
-        Err(Stop::Memory) => 7,
-    };
-    Outcome { status }
+    match gathered(alloc, words, shelf) {
+        Ok(input) => run(rt, alloc, out, input),
+        Err(stop) => ended(out, stop),
+    }
 }

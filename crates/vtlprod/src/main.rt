@@ -7,7 +7,9 @@
 pub mod call;
 pub mod eval;
 pub mod forms;
+pub mod lines;
 pub mod reading;
+pub mod round;
 pub mod stop;
 pub mod words;
 

@@ -1,9 +1,26 @@
-// The top call over a shelf and a sink in memory.
+// The top call over a shelf and a sink in memory, and productions of plain scripts.
+ghost use Rattle.std.specs.Prelude.{◌≡◌, ◌≤◌, ◌<◌};
+ghost use Rattle.checked_trees.specs.Scripts.{Script};
+ghost use Rattle.transform_nodes.specs.Nodes.{CanRun};
+ghost use Rattle.round_journal.specs.Journals.{State};
+ghost use Rattle.round_journal.specs.Stands.{WorkStands, DoneStands};
+ghost use Rattle.round_core.specs.declared.limits.TheConstants.{ENTRY_LIMIT};
+
 use crate::call::run_vtlprod;
+use data_model::steps::Steps;
 use outside::{MemoryShelf, MemorySink, OpenGate};
+use plain_forms::{read_plain, revisions};
+use plain_scripts::read_script;
+use point_sets::Revision;
+use round_core::{ClaimStop, Full, Given, Limits, Production, SubmitStop};
+use round_journal::Verdict;
 use std::alloc::{AllocError, Global};
 use std::collections::BTreeMap;
+use std::marker::{Brand, Sync};
+use std::sync::ledger::{Blank, Ledger};
 use std::test::Fail;
+use std::thread::Threads;
+use transform_nodes::{Done, Work};
 use vtl_values::Word;
 
 const SCRIPT: &str = "R <- A + B;\n";
@@ -62,6 +79,10 @@ fn writes_the_release_or_the_failed_line(rt: HostRuntime) -> Result<(), Fail> {
     let alloc = rt.alloc();
     let most = "@A\n:action,Id,Me\nput,x,1000000000000000\n@B\n:action,Id,Me\nput,x,0\n";
     let past = "@A\n:action,Id,Me\nput,x,1000000000000000\n@B\n:action,Id,Me\nput,x,0.000001\n";
+    let chain = "R <- A + B;\nQ <- R + B;\n";
+    let one_and_two = "@A\n:action,Id,Me\nput,x,1\n@B\n:action,Id,Me\nput,x,2\n";
+    let large =
+        "@A\n:action,Id,Me\nput,x,600000000000000\n@B\n:action,Id,Me\nput,x,400000000000000\n";
     for (script, feed, status, text) in [
         (SCRIPT, "", 0, "release 0 prefix 0\n[R]\nId,Me\n"),
         (SCRIPT, FEED, 0, RELEASE),
@@ -77,7 +98,20 @@ fn writes_the_release_or_the_failed_line(rt: HostRuntime) -> Result<(), Fail> {
             5,
             "accepted 1\naccepted 2\nfailed prefix 2 statement R line 1 column 8 range key x\n",
         ),
+        (
+            chain,
+            one_and_two,
+            0,
+            "accepted 1\naccepted 2\nrelease 1 prefix 2\n[R]\nId,Me\nx,3\n[Q]\nId,Me\nx,5\n",
+        ),
+        (
+            chain,
+            large,
+            5,
+            "accepted 1\naccepted 2\nfailed prefix 2 statement Q line 2 column 8 range key x\n",
+        ),
         (SCRIPT, "@C\n:action,Id,Me\nput,x,1\n", 4, "not built\n"),
+        ("R <- A + Q;\nQ <- A + B;\n", FEED, 4, "not built\n"),
         ("R <- A - B;", FEED, 4, "not built\n"),
     ] {
         let mut shelf = shelf(alloc, &eval_files(script, feed), Vec::new(alloc))?;
@@ -85,6 +119,7 @@ fn writes_the_release_or_the_failed_line(rt: HostRuntime) -> Result<(), Fail> {
         let words = words(alloc, "eval s t f")?;
         let outcome = run_vtlprod(&rt, &words, &mut shelf, &mut out, &OpenGate);
         assert_eq!(rt; outcome.status, status);
+        assert_eq!(rt; outcome.production.is_some(), status != 4);
         assert_eq!(rt; out.taken.as_slice(), text.as_bytes());
     }
     Ok(())
@@ -131,5 +166,121 @@ fn other_words_are_not_built_and_read_nothing(rt: HostRuntime) -> Result<(), Fai
         assert_eq!(rt; out.taken.as_slice(), b"not built\n".as_slice());
         assert_eq!(rt; shelf.calls, 0);
     }
+    Ok(())
+}
+
+fn production(alloc: Global, script: &str, entries: u64) -> Result<Production, Fail>
+    requires { entries ≤ ENTRY_LIMIT }
+{
+    let Some(script) = read_script(alloc, script.as_bytes())? else {
+        return Err(Fail::new("no plain script"));
+    };
+    let limits = Limits {
+        entries,
+        fields: 100,
+    };
+    Ok(Production::new(alloc, script, limits)?)
+}
+
+// The revision of a feed of one block.
+fn revision(alloc: Global, feed: &str) -> Result<Revision, Fail> {
+    let blocks = read_plain(alloc, feed.as_bytes())?;
+    match revisions(alloc, blocks.as_slice())?.pop() {
+        Some(revision) => Ok(revision),
+        None => Err(Fail::new("no block")),
+    }
+}
+
+// Runs a work whose steps nobody counts.
+fn run_work<R: Threads + Sync, L: Ledger>(rt: &R, alloc: Global, blank: Blank, work: Work) -> Done
+    requires stands { CanRun work }
+    requires name { blank.name ≡ L.name }
+    requires parts { (blank.parts ≡ L.parts) × (0 < L.parts) }
+    ensures statement { result.statement ≡ work.statement }
+    ensures stands { (script : Script) (state : State) → WorkStands script state work → DoneStands script state result }
+{
+    let mut steps = Steps::<L>::new(blank);
+    work.run(rt, alloc, &mut steps)
+}
+
+// A caller claims a statement, runs it and gives it back.
+fn take_turn<R: Threads + Sync>(
+    rt: &R,
+    alloc: Global,
+    production: &mut Production,
+    by: u64,
+) -> Result<Given, Fail> {
+    let work = production.claim(by)?;
+    let done = run_work::<R, Brand>(rt, alloc, Blank::new(1), work);
+    Ok(production.give(by, done))
+}
+
+// The same. While the statement is out another caller finds none that is ready, and a third one's revision is judged.
+fn take_turn_with_news<R: Threads + Sync>(
+    rt: &R,
+    alloc: Global,
+    production: &mut Production,
+    by: u64,
+    news: Revision,
+) -> Result<Given, Fail> {
+    let work = production.claim(by)?;
+    let Err(ClaimStop::NoneReady { out: 1 }) = production.claim(2) else {
+        return Err(Fail::new("another statement was handed out"));
+    };
+    let Verdict::Accepted(2) = production.judge_one(3, news)? else {
+        return Err(Fail::new("the second revision has another receipt"));
+    };
+    let _ = production.journal();
+    let done = run_work::<R, Brand>(rt, alloc, Blank::new(1), work);
+    Ok(production.give(by, done))
+}
+
+#[test]
+fn callers_take_turns_in_a_round(rt: HostRuntime) -> Result<(), Fail> {
+    let alloc = rt.alloc();
+    let mut production = production(alloc, "R <- A + B;\nQ <- R + B;\n", 20)?;
+    let first = revision(alloc, "@A\n:action,Id,Me\nput,x,1\n")?;
+    let news = revision(alloc, "@B\n:action,Id,Me\nput,x,2\n")?;
+    assert!(rt; matches!(production.judge_one(0, first)?, Verdict::Accepted(1)));
+    assert_eq!(rt; production.open_round(0)?, 1);
+    let counted = take_turn_with_news(&rt, alloc, &mut production, 1, news)?;
+    assert!(rt; matches!(counted, Given::Counted));
+    let published = take_turn(&rt, alloc, &mut production, 2)?;
+    assert!(rt; matches!(published, Given::Published(1)));
+    let release = production.latest();
+    assert_eq!(rt; release.prefix, 1);
+    assert_eq!(rt; release.pages.len(), 2);
+    for page in release.pages.as_slice() {
+        assert_eq!(rt; page.count(), 0);
+    }
+    assert_eq!(rt; production.journal().len(), 8);
+    Ok(())
+}
+
+#[test]
+fn a_round_has_its_entries_set_aside(rt: HostRuntime) -> Result<(), Fail> {
+    let alloc = rt.alloc();
+    let feed = "@A\n:action,Id,Me\nput,x,1\n";
+    let mut production = production(alloc, SCRIPT, 5)?;
+    assert!(rt;
+        matches!(
+            production.judge_one(0, revision(alloc, feed)?)?,
+            Verdict::Accepted(1)
+        )
+    );
+    assert_eq!(rt; production.open_round(0)?, 1);
+    let full = production.judge_one(0, revision(alloc, feed)?);
+    assert!(rt;
+        matches!(
+            full,
+            Err(SubmitStop::Full(Full::Entries {
+                held: 2,
+                aside: 3,
+                need: 1
+            }))
+        )
+    );
+    let published = take_turn(&rt, alloc, &mut production, 0)?;
+    assert!(rt; matches!(published, Given::Published(1)));
     Ok(())
 }
