@@ -1,8 +1,7 @@
 -- Forms of expressions that begin with a word of their own, as their rules tell them: joins, aggregates, windows,
 -- rulesets and checks.
-use Rattle.std.proofs.Common.{◌≡◌, ℕ, List, [], ◌∷◌, ◌++◌, Option, Some, None, inl, inr, refl, sym, ap, ◌∙◌, map, append_assoc}
-use Rattle.std.proofs.Math.Path.{ap₂}
-use Rattle.std.specs.Prelude.{ℤ, ◌⊎◌, option_map}
+use Rattle.std.proofs.Common.{◌≡◌, List, Option, Some, None, inl, inr, refl, sym, ap, ◌∙◌, map, append_assoc}
+use Rattle.std.specs.Prelude.{ℤ, option_map}
 use Rattle.std.specs.List.{flat_map}
 use Rattle.std.proofs.lemmas.List.Folds.{flat_map-map}
 use Rattle.vtl_values.specs.declared.place.Place.{Place}
@@ -26,17 +25,16 @@ use Rattle.vtl_syntax.specs.declared.words.Mode.{Mode}
 use Rattle.vtl_syntax.specs.declared.words.HierarchyInput.{HierarchyInput}
 use Rattle.vtl_syntax.specs.declared.words.HierarchyOutput.{HierarchyOutput}
 use Rattle.vtl_syntax.specs.declared.words.CheckInput.{CheckInput}
-use Rattle.vtl_grammar.specs.Marks.{Mark, key}
+use Rattle.vtl_grammar.specs.Marks.{key}
 use Rattle.vtl_grammar.specs.Rules.{Rule, name, text, ◌▸◌, either, Of, At, Text, word, expr, comma, filtering, calculating, keeping, renaming}
 use Rattle.vtl_grammar.specs.Clauses as g
 use Rattle.vtl_grammar.specs.Calls as c
 use Rattle.vtl_grammar.specs.Calls.{second}
 use Rattle.vtl_spelling.specs.Kinds.{Kinds, ◌&◌, one, optional}
 use Rattle.vtl_spelling.specs.Kinds as k
-use Rattle.vtl_spelling.specs.Parts as s
-use Rattle.vtl_spelling.specs.Words.{join_kind, aggregate_kind, window_kind, offset_kind, rows_output_kind, check_output_kind, mode_kind, hierarchy_input_kind, hierarchy_output_kind, check_input_kind}
-use Rattle.vtl_spelling.specs.Trees.{spelled, groups_spelled, operand_spelled}
-use Rattle.vtl_spelling.specs.Placeless.{nowhere, placeless, clause_placeless, groups_placeless, operand_placeless, over_placeless}
+use Rattle.vtl_spelling.specs.Words.{join_kind, aggregate_kind, window_kind, offset_kind}
+use Rattle.vtl_spelling.specs.Trees.{spelled, operand_spelled}
+use Rattle.vtl_spelling.specs.Placeless.{nowhere, placeless, clause_placeless}
 use Rattle.vtl_spelling.proofs.Folds.{folded-Join, folded-Aggregate, folded-Window, folded-CountAll, folded-Offset, folded-Rank, folded-CheckDatapoint, folded-Hierarchy, folded-CheckHierarchy, folded-Check}
 use Rattle.vtl_spelling.proofs.Values.{value_spelled, value_placeless}
 use Rattle.vtl_spelling.proofs.Told.{Told, same_word, next, ap_three, ap_four, behind-told, optional-told, option-plain, option-same, map-told, map-plain}

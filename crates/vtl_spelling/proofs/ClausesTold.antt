@@ -1,8 +1,7 @@
 -- Items, groupings and clauses, as their rules tell them.
-use Rattle.std.proofs.Common.{◌≡◌, ℕ, List, [], ◌∷◌, ◌++◌, Option, Some, None, inl, inr, refl, sym, ap, ◌∙◌, map}
+use Rattle.std.proofs.Common.{◌≡◌, ℕ, List, [], ◌∷◌, Option, Some, None, inl, inr, refl, ap, ◌∙◌, map}
 use Rattle.std.proofs.Math.Path.{ap₂}
-use Rattle.std.specs.Prelude.{◌⊎◌, option_map}
-use Rattle.std.specs.List.{flat_map}
+use Rattle.std.specs.Prelude.{option_map}
 use Rattle.std.proofs.lemmas.List.Folds.{flat_map-map}
 use Rattle.vtl_values.specs.declared.place.Place.{Place}
 use Rattle.vtl_tokens.specs.declared.keyword.Keyword.TheVariants as words
@@ -18,18 +17,17 @@ use Rattle.vtl_syntax.specs.declared.expr.Comp.{Comp}
 use Rattle.vtl_syntax.specs.declared.expr.Grouping.{Grouping}
 use Rattle.vtl_syntax.specs.declared.expr.Rename.{Rename}
 use Rattle.vtl_syntax.specs.declared.expr.SubItem.{SubItem}
-use Rattle.vtl_grammar.specs.Marks.{Mark, key, sign}
+use Rattle.vtl_grammar.specs.Marks.{key, sign}
 use Rattle.vtl_grammar.specs.Rules.{Rule, ◌▸◌, either, lists, Of, word, expr, listed, Slot, filtering, calculating, keeping, renaming}
 use Rattle.vtl_grammar.specs.Clauses as g
 use Rattle.vtl_spelling.specs.Kinds.{Kinds, ◌&◌, one, optional, separated}
 use Rattle.vtl_spelling.specs.Kinds as k
 use Rattle.vtl_spelling.specs.Parts as s
-use Rattle.vtl_spelling.specs.Words.{role_kind}
 use Rattle.vtl_spelling.specs.Trees.{clause_step, expr_step, groups_step, item_step, operand_step, range_step, spelled, clause_spelled, groups_spelled, item_spelled}
-use Rattle.vtl_spelling.specs.Placeless.{nowhere, comp_placeless, rename_placeless, sub_item_placeless, grouping_placeless, clause_bare, expr_bare, groups_bare, item_bare, operand_bare, range_bare, placeless, clause_placeless, groups_placeless, item_placeless}
+use Rattle.vtl_spelling.specs.Placeless.{nowhere, comp_placeless, rename_placeless, sub_item_placeless, clause_bare, expr_bare, groups_bare, item_bare, operand_bare, range_bare, placeless, clause_placeless, groups_placeless, item_placeless}
 use Rattle.vtl_spelling.proofs.Folds.{Steps, groups_folded, item_folded, clause_folded-Filter, clause_folded-Calc, clause_folded-Keep, clause_folded-Drop, clause_folded-Rename, clause_folded-Sub, clause_folded-Unpivot, clause_folded-Aggr}
 use Rattle.vtl_spelling.proofs.Values.{value_spelled, value_placeless}
-use Rattle.vtl_spelling.proofs.Told.{Told, same_word, next, behind-told, optional-told, option-plain, option-same, listed-told, listed-plain}
+use Rattle.vtl_spelling.proofs.Told.{Told, next, behind-told, optional-told, option-plain, option-same, listed-told, listed-plain}
 use Rattle.vtl_spelling.proofs.WordsTold.{role-told}
 use Rattle.vtl_spelling.proofs.PartsTold.{comp-told, renamed-told, sub_item-told, grouping-told}
 

@@ -1,14 +1,14 @@
 -- A sign before a number in its one form: it can be spelled, and is found again without places.
-use Rattle.std.proofs.Common.{◌≡◌, ℕ, suc, [], ◌∷◌, ◌++◌, Option, Some, None, inl, inr, refl, sym, ap, ◌∙◌}
-use Rattle.std.specs.Prelude.{ℤ, pos, negsuc, ◌⊎◌, option_map}
+use Rattle.std.proofs.Common.{◌≡◌, suc, [], ◌∷◌, Option, Some, None, inl, inr, refl, sym, ap, ◌∙◌}
+use Rattle.std.specs.Prelude.{ℤ, pos, negsuc, option_map}
 use Rattle.vtl_values.specs.declared.place.Place.{Place}
 use Rattle.vtl_tokens.specs.declared.token.TokenKind.TheVariants as what
 use Rattle.vtl_grammar.specs.Marks.{Mark, Tokens, at, kind_of}
-use Rattle.vtl_grammar.specs.Rules.{Counts, Rule, mark, integer, number, option, either, OfPart, Of, At, Spells}
+use Rattle.vtl_grammar.specs.Rules.{Counts, Rule, mark, integer, number, option, either, Of, Spells}
 use Rattle.vtl_grammar.specs.Clauses.{signed}
 use Rattle.vtl_grammar.specs.Expressions.{Spelled}
 use Rattle.vtl_spelling.specs.Placeless.{nowhere}
-use Rattle.vtl_spelling.proofs.Values.{minus_of, size_of, in_form, with_left, with_right, number_formed, formed, at_nowhere, value_placeless}
+use Rattle.vtl_spelling.proofs.Values.{minus_of, size_of, in_form, with_left, with_right, number_formed, formed, value_placeless}
 
 -- ---- it can be spelled
 

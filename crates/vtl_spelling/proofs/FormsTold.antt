@@ -1,8 +1,8 @@
 -- Forms of expressions that begin with a word of their own, as their rules tell them: signs, scalar functions, sets and
 -- joins.
-use Rattle.std.proofs.Common.{◌≡◌, ℕ, List, [], ◌∷◌, ◌++◌, Option, Some, None, inl, inr, refl, sym, ap, ◌∙◌, map, append_assoc}
+use Rattle.std.proofs.Common.{◌≡◌, ℕ, List, ◌∷◌, Option, Some, None, inl, inr, sym, ap, ◌∙◌, map, append_assoc}
 use Rattle.std.proofs.Math.Path.{ap₂}
-use Rattle.std.specs.Prelude.{ℤ, ◌⊎◌, option_map}
+use Rattle.std.specs.Prelude.{ℤ, option_map}
 use Rattle.std.specs.List.{flat_map}
 use Rattle.std.proofs.lemmas.List.Folds.{flat_map-map}
 use Rattle.vtl_values.specs.declared.place.Place.{Place}
@@ -23,22 +23,20 @@ use Rattle.vtl_syntax.specs.declared.words.BinaryFunction.{BinaryFunction}
 use Rattle.vtl_syntax.specs.declared.words.ExistsRows.{ExistsRows}
 use Rattle.vtl_syntax.specs.declared.words.SetFunction.{SetFunction}
 use Rattle.vtl_syntax.specs.declared.words.DifferenceFunction.{DifferenceFunction}
-use Rattle.vtl_syntax.specs.declared.words.JoinFunction.{JoinFunction}
-use Rattle.vtl_grammar.specs.Marks.{Mark, key, sign}
-use Rattle.vtl_grammar.specs.Rules.{Rule, name, part, clause, Slot, ◌▸◌, Of, word, expr, comma}
+use Rattle.vtl_grammar.specs.Marks.{key, sign}
+use Rattle.vtl_grammar.specs.Rules.{name, part, clause, Slot, ◌▸◌, Of, word, expr, comma}
 use Rattle.vtl_grammar.specs.Clauses as g
 use Rattle.vtl_grammar.specs.Calls as c
 use Rattle.vtl_grammar.specs.Calls.{Form, second}
 use Rattle.vtl_grammar.specs.Forms.{conditional, bracket, signed_form}
 use Rattle.vtl_spelling.specs.Kinds.{Kinds, ◌&◌, one, optional}
 use Rattle.vtl_spelling.specs.Kinds as k
-use Rattle.vtl_spelling.specs.Parts as s
-use Rattle.vtl_spelling.specs.Words.{prefix_kind, unary_kind, round_kind, binary_kind, exists_rows_kind, set_kind, difference_kind, join_kind}
-use Rattle.vtl_spelling.specs.Trees.{spelled, clause_spelled, operand_spelled, range_spelled}
-use Rattle.vtl_spelling.specs.Placeless.{nowhere, placeless, clause_placeless, operand_placeless, range_placeless}
-use Rattle.vtl_spelling.proofs.Folds.{operand_folded, range_folded, folded-If, folded-Bracket, folded-Signed, folded-Unary, folded-Round, folded-Binary, folded-Between, folded-MatchCharacters, folded-Substr, folded-Replace, folded-ExistsIn, folded-Sets, folded-Difference, folded-Join}
+use Rattle.vtl_spelling.specs.Words.{prefix_kind, unary_kind, round_kind, binary_kind, exists_rows_kind, set_kind, difference_kind}
+use Rattle.vtl_spelling.specs.Trees.{spelled, clause_spelled, operand_spelled}
+use Rattle.vtl_spelling.specs.Placeless.{nowhere, placeless, operand_placeless}
+use Rattle.vtl_spelling.proofs.Folds.{operand_folded, range_folded, folded-If, folded-Bracket, folded-Signed, folded-Unary, folded-Round, folded-Binary, folded-Between, folded-MatchCharacters, folded-Substr, folded-Replace, folded-ExistsIn, folded-Sets, folded-Difference}
 use Rattle.vtl_spelling.proofs.Values.{value_spelled, value_placeless}
-use Rattle.vtl_spelling.proofs.Told.{Told, same_word, next, ap_three, ap_four, behind-told, optional-told, option-plain, option-same, map-told, map-plain}
+use Rattle.vtl_spelling.proofs.Told.{Told, same_word, behind-told, optional-told, option-plain, option-same, map-told, map-plain}
 use Rattle.vtl_spelling.proofs.WordsTold.{exists_rows-told}
 use Rattle.vtl_spelling.proofs.PartsTold.{signed_integer-told, literal-told, name-told}
 use Rattle.vtl_spelling.proofs.ClausesTold.{spelling, baring, optional-map, expr-told}

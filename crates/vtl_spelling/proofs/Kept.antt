@@ -1,5 +1,5 @@
 -- What spells a tree doesn't depend on its places: each level, where it is so of each part.
-use Rattle.std.proofs.Common.{◌≡◌, ℕ, List, [], ◌∷◌, ◌++◌, Option, Some, None, refl, sym, ap, subst, ◌∙◌, map}
+use Rattle.std.proofs.Common.{◌≡◌, List, [], ◌∷◌, Option, Some, None, refl, sym, ap, subst, ◌∙◌, map}
 use Rattle.std.proofs.Math.Path.{ap₂}
 use Rattle.std.specs.Prelude.{option_map}
 use Rattle.vtl_tokens.specs.declared.keyword.Keyword.TheVariants as words
@@ -22,7 +22,7 @@ use Rattle.vtl_spelling.specs.Trees.{call, expr_step, clause_step, spelled, clau
 use Rattle.vtl_spelling.specs.Placeless.{nowhere, comp_placeless, rename_placeless, sub_item_placeless, order_item_placeless, points_placeless, over_placeless, placeless, clause_placeless, groups_placeless, item_placeless, operand_placeless, range_placeless}
 use Rattle.vtl_spelling.proofs.Maps.{maps-Substr, maps-Replace, maps-Join, maps-Aggregate, maps-Check, clause_maps-Aggr}
 use Rattle.vtl_spelling.proofs.Folds.{folded-If, folded-Or, folded-And, folded-Compare, folded-In, folded-Sum, folded-Product, folded-Signed, folded-Member, folded-Clause, folded-Literal, folded-Name, folded-Bracket, folded-Unary, folded-Round, folded-Binary, folded-Between, folded-MatchCharacters, folded-Substr, folded-Replace, folded-ExistsIn, folded-Sets, folded-Difference, folded-Join, folded-Aggregate, folded-Window, folded-CountAll, folded-Offset, folded-Rank, folded-CheckDatapoint, folded-Hierarchy, folded-CheckHierarchy, folded-Check, clause_folded-Filter, clause_folded-Calc, clause_folded-Keep, clause_folded-Drop, clause_folded-Rename, clause_folded-Sub, clause_folded-Unpivot, clause_folded-Aggr}
-use Rattle.vtl_spelling.proofs.Told.{next, ap_three, ap_four}
+use Rattle.vtl_spelling.proofs.Told.{ap_three, ap_four}
 use Rattle.vtl_spelling.proofs.ClausesTold.{spelling, baring, separated-map}
 
 -- ---- trees that are spelled the same without places

@@ -1,5 +1,5 @@
 -- What spells a script doesn't depend on its places.
-use Rattle.std.proofs.Common.{◌≡◌, ℕ, List, [], ◌∷◌, ◌++◌, Option, Some, None, refl, sym, ap, ◌∙◌, map}
+use Rattle.std.proofs.Common.{◌≡◌, List, [], ◌∷◌, Option, Some, None, refl, sym, ap, ◌∙◌, map}
 use Rattle.std.proofs.Math.Path.{ap₂}
 use Rattle.std.specs.Prelude.{option_map}
 use Rattle.std.specs.List.{flat_map}
@@ -14,7 +14,6 @@ use Rattle.vtl_syntax.specs.declared.script.Script.{Script}
 use Rattle.vtl_tokens.specs.declared.keyword.Keyword.TheVariants as words
 use Rattle.vtl_spelling.specs.Kinds.{Kinds, ◌&◌, one, key, name, optional, separated, comma}
 use Rattle.vtl_spelling.specs.Words.{relation_kind, sign_kind}
-use Rattle.vtl_spelling.specs.Trees.{spelled}
 use Rattle.vtl_spelling.specs.Rulesets.{semicolon, variable_spelled, label, condition_spelled, fault_spelled, signed_name_spelled, datapoint_rule_spelled, hierarchy_rule_spelled, ruleset_spelled}
 use Rattle.vtl_spelling.specs.Scripts.{arrow, statement_spelled, script_spelled}
 use Rattle.vtl_spelling.specs.Placeless.{placeless, variable_placeless, signed_name_placeless, datapoint_rule_placeless, hierarchy_rule_placeless, ruleset_placeless, statement_placeless, script_placeless, IsSameButPlaces}

@@ -1,9 +1,7 @@
 -- What spells a tree doesn't depend on its places.
-use Rattle.std.proofs.Common.{◌≡◌, ℕ, List, [], ◌∷◌, ◌++◌, Option, Some, None, refl, sym, ap, subst, ◌∙◌, map}
+use Rattle.std.proofs.Common.{◌≡◌, Option, refl, sym, ap, subst, ◌∙◌}
 use Rattle.std.proofs.Math.Path.{ap₂}
 use Rattle.std.specs.Prelude.{option_map}
-use Rattle.std.specs.List.{flat_map}
-use Rattle.vtl_values.specs.declared.place.Place.{Place}
 use Rattle.vtl_syntax.specs.declared.expr.Expr.{Expr, roll-Expr, ind-Expr}
 use Rattle.vtl_syntax.specs.declared.expr.Clause.{Clause, roll-Clause}
 use Rattle.vtl_syntax.specs.declared.expr.Groups.{Groups, roll-Groups, map-Groups, rolls-Groups'}
@@ -11,15 +9,7 @@ use Rattle.vtl_syntax.specs.declared.expr.Item.{Item, roll-Item, map-Item, rolls
 use Rattle.vtl_syntax.specs.declared.expr.JoinOperand.{JoinOperand, roll-JoinOperand, map-JoinOperand, rolls-JoinOperand'}
 use Rattle.vtl_syntax.specs.declared.expr.SubstrRange.{SubstrRange, roll-SubstrRange, map-SubstrRange, rolls-SubstrRange'}
 use Rattle.vtl_syntax.specs.declared.expr.Clause.TheOpen.{Expr-F, Clause-F, Groups-F, Item-F, JoinOperand-F, SubstrRange-F}
-use Rattle.vtl_syntax.specs.declared.ruleset.Ruleset.{Ruleset}
-use Rattle.vtl_syntax.specs.declared.ruleset.Ruleset.TheVariants as kind
-use Rattle.vtl_syntax.specs.declared.ruleset.Variable.{Variable}
-use Rattle.vtl_syntax.specs.declared.ruleset.DatapointRule.{DatapointRule}
-use Rattle.vtl_syntax.specs.declared.ruleset.HierarchyRule.{HierarchyRule}
-use Rattle.vtl_syntax.specs.declared.script.Statement.{Statement}
-use Rattle.vtl_syntax.specs.declared.script.Script.{Script}
-use Rattle.vtl_spelling.specs.Kinds.{Kinds, ◌&◌, one, optional}
-use Rattle.vtl_spelling.specs.Parts.{grouping_spelled}
+use Rattle.vtl_spelling.specs.Kinds.{Kinds}
 use Rattle.vtl_spelling.specs.Trees.{groups_step, item_step, operand_step, range_step, spelled, groups_spelled, item_spelled, operand_spelled, range_spelled}
 use Rattle.vtl_spelling.specs.Placeless.{nowhere, grouping_placeless, placeless, groups_placeless, item_placeless, operand_placeless, range_placeless}
 use Rattle.vtl_spelling.proofs.Maps.{groups_maps, range_maps}

@@ -2,7 +2,7 @@
 use Rattle.std.proofs.Common.{◌≡◌, ℕ, List, Option, Some, None, map, refl}
 use Rattle.std.specs.Prelude.{ℤ, option_map}
 use Rattle.vtl_values.specs.declared.place.Place.{Place}
-use Rattle.vtl_syntax.specs.declared.expr.Clause.TheOpen.{Expr-F, Clause-F, Groups-F, SubstrRange-F}
+use Rattle.vtl_syntax.specs.declared.expr.Clause.TheOpen.{Expr-F, Clause-F}
 use Rattle.vtl_syntax.specs.declared.expr.Expr.{map-Expr}
 use Rattle.vtl_syntax.specs.declared.expr.Clause.{map-Clause}
 use Rattle.vtl_syntax.specs.declared.expr.Groups.{map-Groups}

@@ -11,14 +11,13 @@ use Rattle.vtl_grammar.specs.Marks.{Tokens, at, kind_of}
 use Rattle.vtl_grammar.specs.Rules.{Counts, Rule, Part, expression, clause, Of, Spells}
 use Rattle.vtl_grammar.specs.Clauses.{slot_rule, slot_tree}
 use Rattle.vtl_grammar.specs.Forms.{leaf_in}
-use Rattle.vtl_grammar.specs.Expressions.{Spelled, IsLeaf, IsForm, IsTailed, IsPart}
+use Rattle.vtl_grammar.specs.Expressions.{IsLeaf, IsForm, IsTailed, IsPart}
 use Rattle.vtl_spelling.specs.Kinds.{Kinds, ◌&◌, one}
 use Rattle.vtl_spelling.specs.Trees.{spelled, clause_spelled}
 use Rattle.vtl_spelling.specs.Placeless.{nowhere, placeless, clause_placeless}
 use Rattle.vtl_spelling.proofs.Folds.{folded-Name, folded-Literal}
 use Rattle.vtl_spelling.proofs.Values.{value_spelled, value_placeless, part_spelled, part_placeless}
-use Rattle.vtl_spelling.specs.Laws.{kinds_of}
-use Rattle.vtl_spelling.proofs.Retold.{in_two, first_of, only, Retold, Retells, rule-retold}
+use Rattle.vtl_spelling.proofs.Retold.{in_two, first_of, only, Retells, rule-retold}
 use Rattle.vtl_spelling.proofs.Told.{Told}
 use Rattle.vtl_spelling.proofs.ClausesTold.{spelling, baring, slot-told}
 use Rattle.vtl_spelling.proofs.FormTable.{form-told}

@@ -1,7 +1,6 @@
 -- What stands inside expressions and holds none, as its rules tell it.
-use Rattle.std.proofs.Common.{◌≡◌, ℕ, suc, List, [], ◌∷◌, ◌++◌, Option, Some, None, inl, inr, refl, sym, ap, ◌∙◌, map}
-use Rattle.std.specs.Prelude.{ℤ, pos, negsuc, ◌⊎◌, option_map}
-use Rattle.std.specs.List.{flat_map}
+use Rattle.std.proofs.Common.{◌≡◌, List, Option, Some, None, inl, inr, refl, sym, ap, ◌∙◌, map}
+use Rattle.std.specs.Prelude.{ℤ, pos, negsuc}
 use Rattle.vtl_values.specs.declared.place.Place.{Place}
 use Rattle.vtl_values.specs.declared.value.Value.{Value}
 use Rattle.vtl_values.specs.declared.value.Value.TheVariants as value
@@ -9,28 +8,19 @@ use Rattle.vtl_tokens.specs.declared.keyword.Keyword.TheVariants as words
 use Rattle.vtl_tokens.specs.declared.sign.Sign.TheVariants as signs
 use Rattle.vtl_tokens.specs.declared.token.TokenKind.{TokenKind}
 use Rattle.vtl_tokens.specs.declared.token.TokenKind.TheVariants as what
-use Rattle.vtl_syntax.specs.declared.expr.Comp.{Comp}
-use Rattle.vtl_syntax.specs.declared.expr.Grouping.{Grouping}
-use Rattle.vtl_syntax.specs.declared.expr.Over.{Over}
 use Rattle.vtl_syntax.specs.declared.expr.OrderItem.{OrderItem}
-use Rattle.vtl_syntax.specs.declared.expr.Points.{Points}
-use Rattle.vtl_syntax.specs.declared.words.Direction.{Direction}
-use Rattle.vtl_syntax.specs.declared.words.GroupWord.{GroupWord}
-use Rattle.vtl_syntax.specs.declared.words.WindowStart.{WindowStart}
-use Rattle.vtl_syntax.specs.declared.words.WindowEnd.{WindowEnd}
-use Rattle.vtl_grammar.specs.Marks.{Mark, key, sign}
-use Rattle.vtl_grammar.specs.Rules.{Rule, name, ◌▸◌, lists, Of, At, Text, word, sig, commas, listed}
+use Rattle.vtl_grammar.specs.Marks.{key, sign}
+use Rattle.vtl_grammar.specs.Rules.{name, ◌▸◌, lists, Of, word, commas, listed}
 use Rattle.vtl_grammar.specs.Clauses as g
 use Rattle.vtl_grammar.specs.Calls as c
 use Rattle.vtl_spelling.specs.Kinds.{Kinds, ◌&◌, one, optional}
 use Rattle.vtl_spelling.specs.Kinds as k
-use Rattle.vtl_spelling.specs.Words.{group_word_kind, direction_kind}
 use Rattle.vtl_spelling.specs.Parts as s
 use Rattle.vtl_spelling.specs.Placeless.{nowhere, comp_placeless, rename_placeless, sub_item_placeless, grouping_placeless, order_item_placeless, points_placeless, over_placeless}
-use Rattle.vtl_spelling.proofs.Values.{minus_of, size_of, in_form, value_spelled, value_placeless}
+use Rattle.vtl_spelling.proofs.Values.{minus_of, size_of, value_spelled, value_placeless}
 use Rattle.vtl_spelling.proofs.Formed.{lone, signed-lone}
 use Rattle.vtl_spelling.proofs.Told.{Told, same_word, behind-told, optional-told, option-plain, option-same, listed-told, listed-plain, listed-same}
-use Rattle.vtl_spelling.proofs.WordsTold.{group_word_rule, group_word-told, direction_rule, direction-told}
+use Rattle.vtl_spelling.proofs.WordsTold.{group_word-told}
 
 -- ---- numbers
 

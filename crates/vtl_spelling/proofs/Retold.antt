@@ -1,6 +1,6 @@
 -- Tokens of the kinds that spell what a rule stands for are the same, at other places.
-use Rattle.std.proofs.Common.{◌≡◌, ℕ, zero, suc, List, [], ◌∷◌, ◌++◌, Option, Some, None, inl, inr, refl, sym, ap, subst, ◌∙◌, map}
-use Rattle.std.specs.Prelude.{ℤ, pos, negsuc, ◌⊎◌, option_map}
+use Rattle.std.proofs.Common.{◌≡◌, ℕ, zero, suc, [], ◌∷◌, ◌++◌, Option, Some, None, inl, inr, refl, sym, ap, subst, ◌∙◌, map}
+use Rattle.std.specs.Prelude.{◌⊎◌}
 use Rattle.std.specs.List.{flat_map}
 use Rattle.vtl_values.specs.declared.place.Place.{Place}
 use Rattle.vtl_tokens.specs.declared.token.TokenKind.{TokenKind}
@@ -9,14 +9,13 @@ use Rattle.vtl_tokens.specs.declared.keyword.Keyword.TheVariants as words
 use Rattle.vtl_tokens.specs.declared.sign.Sign.TheVariants as signs
 use Rattle.std.proofs.lemmas.List.{append-nil}
 use Rattle.vtl_spelling.proofs.Formed.{both_placeless, formed-said, formed-again}
-use Rattle.vtl_grammar.specs.Marks.{Mark, Tokens, at, kind_of}
-use Rattle.vtl_grammar.specs.Rules.{Counts, Limit, Rule, mark, name, integer, number, text, part, ◌▸◌, option, suffix, either, repeated, prefixed, here, Part, OfPart, Prefix, label, component, Of, At, first_place, prefix_tokens, Spells, SpellsMore}
-use Rattle.vtl_grammar.specs.Clauses.{signed}
+use Rattle.vtl_grammar.specs.Marks.{Tokens, at, kind_of}
+use Rattle.vtl_grammar.specs.Rules.{Counts, Limit, Rule, mark, name, integer, number, text, part, ◌▸◌, option, suffix, either, repeated, prefixed, here, Part, Prefix, label, component, Of, first_place, Spells, SpellsMore}
 use Rattle.vtl_grammar.specs.Expressions.{Spelled}
 use Rattle.vtl_spelling.specs.Kinds.{Kinds, ◌&◌, one, sig, optional}
 use Rattle.vtl_spelling.specs.Placeless.{nowhere}
 use Rattle.vtl_spelling.specs.Laws.{kinds_of}
-use Rattle.vtl_spelling.proofs.Values.{minus_of, size_of, in_form, with_left, with_right, number_formed, formed, part_spelled, prefix_spelled, value_spelled, part_placeless, at_nowhere, value_placeless}
+use Rattle.vtl_spelling.proofs.Values.{formed, part_spelled, value_spelled, part_placeless, at_nowhere, value_placeless}
 
 -- ---- tokens of given kinds
 

@@ -1,5 +1,5 @@
 -- Rulesets and statements, as their rules tell them.
-use Rattle.std.proofs.Common.{◌≡◌, ℕ, List, [], ◌∷◌, ◌++◌, Option, Some, None, inl, inr, refl, sym, ap, ◌∙◌, map, append_assoc}
+use Rattle.std.proofs.Common.{◌≡◌, List, Option, Some, None, inl, inr, refl, sym, ap, ◌∙◌, map, append_assoc}
 use Rattle.std.proofs.Math.Path.{ap₂}
 use Rattle.std.specs.Prelude.{ℤ, ◌⊎◌, option_map}
 use Rattle.std.specs.List.{flat_map}
@@ -10,17 +10,15 @@ use Rattle.vtl_syntax.specs.declared.expr.Expr.{Expr}
 use Rattle.vtl_syntax.specs.declared.words.Sign.{Sign}
 use Rattle.vtl_syntax.specs.declared.words.Relation.{Relation}
 use Rattle.vtl_syntax.specs.declared.words.Relation.TheVariants as relation
-use Rattle.vtl_syntax.specs.declared.ruleset.Ruleset.{Ruleset}
 use Rattle.vtl_syntax.specs.declared.ruleset.Ruleset.TheVariants as kind
 use Rattle.vtl_syntax.specs.declared.ruleset.Variable.{Variable}
 use Rattle.vtl_syntax.specs.declared.ruleset.FaultPart.{FaultPart}
 use Rattle.vtl_syntax.specs.declared.ruleset.SignedName.{SignedName}
 use Rattle.vtl_syntax.specs.declared.ruleset.DatapointRule.{DatapointRule}
 use Rattle.vtl_syntax.specs.declared.ruleset.HierarchyRule.{HierarchyRule}
-use Rattle.vtl_syntax.specs.declared.script.Statement.{Statement}
-use Rattle.vtl_grammar.specs.Marks.{Mark, key, sign}
+use Rattle.vtl_grammar.specs.Marks.{key, sign}
 use Rattle.vtl_grammar.specs.Rules.{Rule, name, text, ◌▸◌, option, either, repeated, rules, lists, Of, At, Text, word, expr, commas, listed}
-use Rattle.vtl_grammar.specs.Clauses.{signed_integer, signed_of}
+use Rattle.vtl_grammar.specs.Clauses.{signed_integer}
 use Rattle.vtl_grammar.specs.Rulesets as g
 use Rattle.vtl_grammar.specs.Scripts.{statement_rule, statement_of}
 use Rattle.vtl_spelling.specs.Kinds.{Kinds, ◌&◌, one, optional}
@@ -28,14 +26,14 @@ use Rattle.vtl_spelling.specs.Kinds as k
 use Rattle.vtl_spelling.specs.Words.{relation_kind, sign_kind}
 use Rattle.vtl_spelling.specs.Trees.{spelled}
 use Rattle.vtl_spelling.specs.Rulesets as s
-use Rattle.vtl_spelling.specs.Scripts.{arrow, statement_spelled}
+use Rattle.vtl_spelling.specs.Scripts.{statement_spelled}
 use Rattle.vtl_spelling.specs.Placeless.{nowhere, placeless, variable_placeless, fault_placeless, signed_name_placeless, datapoint_rule_placeless, hierarchy_rule_placeless, ruleset_placeless, statement_placeless}
 use Rattle.vtl_spelling.proofs.Values.{value_spelled, value_placeless}
-use Rattle.vtl_spelling.proofs.Told.{Told, same_word, next, ap_three, ap_four, behind-told, optional-told, option-plain, option-same, map-told, map-plain, listed-told, listed-plain}
+use Rattle.vtl_spelling.proofs.Told.{Told, next, ap_three, ap_four, behind-told, optional-told, option-plain, option-same, map-told, map-plain, listed-told, listed-plain}
 use Rattle.vtl_spelling.proofs.WordsTold.{relation-told, sign-told}
 use Rattle.vtl_spelling.proofs.PartsTold.{name-told}
 use Rattle.vtl_spelling.proofs.ClausesTold.{optional-map}
-use Rattle.vtl_spelling.proofs.CallsTold.{code-told, level-told}
+use Rattle.vtl_spelling.proofs.CallsTold.{level-told}
 
 -- ---- variables, conditions and faults
 

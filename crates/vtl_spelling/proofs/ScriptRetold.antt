@@ -1,20 +1,20 @@
 -- Tokens of the kinds that spell a script are that script at other places.
-use Rattle.std.proofs.Common.{◌≡◌, ℕ, zero, suc, List, [], ◌∷◌, ◌++◌, inl, inr, refl, sym, ap, subst, ◌∙◌, map, append_assoc}
+use Rattle.std.proofs.Common.{◌≡◌, ℕ, zero, suc, List, [], ◌∷◌, ◌++◌, inl, inr, refl, sym, ap, subst, ◌∙◌, append_assoc}
 use Rattle.std.proofs.Math.Path.{ap₂}
 use Rattle.std.specs.List.{flat_map}
 use Rattle.vtl_syntax.specs.declared.ruleset.Ruleset.{Ruleset}
 use Rattle.vtl_syntax.specs.declared.script.Statement.{Statement}
 use Rattle.vtl_syntax.specs.declared.script.Script.{Script}
 use Rattle.vtl_grammar.specs.Marks.{Tokens}
-use Rattle.vtl_grammar.specs.Rules.{Counts, Of, Spells, SpellsMore, statements, rulesets}
+use Rattle.vtl_grammar.specs.Rules.{Counts, Of, Spells, SpellsMore}
 use Rattle.vtl_grammar.specs.Expressions.{IsPart}
 use Rattle.vtl_grammar.specs.Rulesets.{ruleset_rule, ruleset_of}
-use Rattle.vtl_grammar.specs.Scripts.{statement_rule, statement_of, Piece, IsPieces, script_of, IsScriptIn}
+use Rattle.vtl_grammar.specs.Scripts.{statement_rule, statement_of, Piece, IsPieces, script_of}
 use Rattle.vtl_spelling.specs.Rulesets.{ruleset_spelled}
 use Rattle.vtl_spelling.specs.Scripts.{statement_spelled, script_spelled}
-use Rattle.vtl_spelling.specs.Placeless.{ruleset_placeless, statement_placeless, script_placeless, IsSameButPlaces}
+use Rattle.vtl_spelling.specs.Placeless.{ruleset_placeless, statement_placeless, IsSameButPlaces}
 use Rattle.vtl_spelling.specs.Laws.{kinds_of}
-use Rattle.vtl_spelling.proofs.Retold.{in_two, Retold, Retells, more-retold}
+use Rattle.vtl_spelling.proofs.Retold.{in_two, more-retold}
 use Rattle.vtl_spelling.proofs.PartRetold.{told-retold}
 use Rattle.vtl_spelling.proofs.RulesetsTold.{ruleset-told, statement-told}
 

@@ -1,6 +1,5 @@
 -- The laws of spelling.
 use Rattle.std.proofs.Common.{◌≡◌, [], ◌∷◌, map, refl, sym, ap, ◌∙◌}
-use Rattle.vtl_syntax.specs.declared.script.Script.{Script}
 use Rattle.vtl_grammar.specs.Marks.{Tokens, at}
 use Rattle.vtl_grammar.specs.Rules.{statements, rulesets}
 use Rattle.vtl_grammar.specs.Scripts.{language, LEVELS}

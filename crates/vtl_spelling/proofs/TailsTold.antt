@@ -5,11 +5,9 @@ use Rattle.vtl_values.specs.declared.value.Value.{Value}
 use Rattle.vtl_tokens.specs.declared.keyword.Keyword.TheVariants as words
 use Rattle.vtl_tokens.specs.declared.sign.Sign.TheVariants as signs
 use Rattle.vtl_tokens.specs.declared.token.TokenKind.{TokenKind}
-use Rattle.vtl_tokens.specs.declared.token.TokenKind.TheVariants as what
 use Rattle.vtl_syntax.specs.declared.expr.Expr.{Expr}
 use Rattle.vtl_syntax.specs.declared.expr.Expr.TheVariants as tree
 use Rattle.vtl_syntax.specs.declared.expr.Clause.{Clause}
-use Rattle.vtl_syntax.specs.declared.words.OrSign.{OrSign}
 use Rattle.vtl_syntax.specs.declared.words.OrSign.TheVariants as or_sign
 use Rattle.vtl_syntax.specs.declared.words.Comparison.{Comparison}
 use Rattle.vtl_syntax.specs.declared.words.Comparison.TheVariants as compare
@@ -26,12 +24,12 @@ use Rattle.vtl_grammar.specs.Forms.{Tail, compared, member_of_set, summed, multi
 use Rattle.vtl_spelling.specs.Kinds.{Kinds, ◌&◌, one}
 use Rattle.vtl_spelling.specs.Kinds as k
 use Rattle.vtl_spelling.specs.Parts as s
-use Rattle.vtl_spelling.specs.Words.{or_kind, comparison_kind, in_kind, sum_kind, product_kind}
+use Rattle.vtl_spelling.specs.Words.{comparison_kind, in_kind, sum_kind, product_kind}
 use Rattle.vtl_spelling.specs.Trees.{spelled}
 use Rattle.vtl_spelling.specs.Placeless.{nowhere, placeless}
 use Rattle.vtl_spelling.proofs.Folds.{folded-Or, folded-And, folded-Compare, folded-In, folded-Sum, folded-Product, folded-Member, folded-Clause}
 use Rattle.vtl_spelling.proofs.Values.{value_spelled, value_placeless}
-use Rattle.vtl_spelling.proofs.Told.{Told, same_word, listed-told, listed-same}
+use Rattle.vtl_spelling.proofs.Told.{same_word, listed-told, listed-same}
 use Rattle.vtl_spelling.proofs.PartsTold.{literal-told}
 use Rattle.vtl_spelling.proofs.ClausesTold.{spelling, baring, clause-told}
 

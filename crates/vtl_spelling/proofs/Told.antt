@@ -1,9 +1,8 @@
 -- What is made of what a rule stands for is spelled by the rule's tokens, and is made again without places.
-use Rattle.std.proofs.Common.{◌≡◌, ℕ, List, [], ◌∷◌, ◌++◌, Option, Some, None, refl, sym, ap, ◌∙◌, map}
+use Rattle.std.proofs.Common.{◌≡◌, List, [], ◌∷◌, ◌++◌, Option, Some, None, refl, ap, ◌∙◌, map}
 use Rattle.std.proofs.Math.Path.{ap₂}
 use Rattle.std.specs.Prelude.{option_map}
 use Rattle.std.specs.List.{flat_map}
-use Rattle.vtl_values.specs.declared.place.Place.{Place}
 use Rattle.vtl_grammar.specs.Marks.{Mark, kind_of}
 use Rattle.vtl_grammar.specs.Rules.{Limit, Rule, mark, ◌▸◌, repeated, Of, listed}
 use Rattle.vtl_spelling.specs.Kinds.{Kinds, ◌&◌, one, optional, separated}

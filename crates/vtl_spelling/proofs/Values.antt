@@ -1,6 +1,6 @@
 -- What a rule stands for: the tokens that spell it, and the same without places. Both bring a sign before a number to
 -- one form: a minus stands before a negative number alone, and the number behind it is positive.
-use Rattle.std.proofs.Common.{◌≡◌, ℕ, suc, List, Option, Some, None, inl, inr, map}
+use Rattle.std.proofs.Common.{ℕ, suc, List, Option, Some, None, inl, inr, map}
 use Rattle.std.specs.Prelude.{ℤ, pos, negsuc, ◌⊎◌, option_map}
 use Rattle.std.specs.List.{flat_map}
 use Rattle.vtl_values.specs.declared.place.Place.{Place}

@@ -1,5 +1,5 @@
 -- The tokens that spell what stands inside expressions and holds none.
-use Rattle.std.specs.Prelude.{ℕ, List, [], ◌∷◌, Bool, true, false}
+use Rattle.std.specs.Prelude.{ℕ, List, Bool, true, false}
 use Rattle.vtl_values.specs.declared.value.Value.{Value}
 use Rattle.vtl_values.specs.declared.value.Value.TheVariants as value
 use Rattle.vtl_tokens.specs.declared.keyword.Keyword.TheVariants as words
@@ -16,7 +16,7 @@ use Rattle.vtl_syntax.specs.declared.words.WindowStart.{WindowStart}
 use Rattle.vtl_syntax.specs.declared.words.WindowStart.TheVariants as start
 use Rattle.vtl_syntax.specs.declared.words.WindowEnd.{WindowEnd}
 use Rattle.vtl_syntax.specs.declared.words.WindowEnd.TheVariants as stop
-use Rattle.vtl_spelling.specs.Kinds.{Kinds, ◌&◌, one, key, sig, comma, commas, open_paren, close_paren, optional, name, text, integer, signed, signed_integer}
+use Rattle.vtl_spelling.specs.Kinds.{Kinds, ◌&◌, one, key, sig, commas, open_paren, close_paren, optional, name, text, integer, signed, signed_integer}
 use Rattle.vtl_spelling.specs.Words.{group_word_kind, direction_kind}
 
 abbrev pub truth : Bool → Kinds

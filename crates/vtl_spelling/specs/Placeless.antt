@@ -1,5 +1,5 @@
 -- Trees with every place put to one, so that two trees are the same but for places if these are equal.
-use Rattle.std.specs.Prelude.{◌≡◌, List, Option, map, option_map}
+use Rattle.std.specs.Prelude.{◌≡◌, map, option_map}
 use Rattle.vtl_values.specs.declared.place.Place.{Place}
 use Rattle.vtl_syntax.specs.declared.expr.Expr.{Expr, fold-Expr}
 use Rattle.vtl_syntax.specs.declared.expr.Expr.TheVariants as tree
@@ -24,8 +24,6 @@ use Rattle.vtl_syntax.specs.declared.ruleset.FaultPart.{FaultPart}
 use Rattle.vtl_syntax.specs.declared.ruleset.SignedName.{SignedName}
 use Rattle.vtl_syntax.specs.declared.ruleset.DatapointRule.{DatapointRule}
 use Rattle.vtl_syntax.specs.declared.ruleset.HierarchyRule.{HierarchyRule}
-use Rattle.vtl_syntax.specs.declared.ruleset.DatapointRules.{DatapointRules}
-use Rattle.vtl_syntax.specs.declared.ruleset.HierarchyRules.{HierarchyRules}
 use Rattle.vtl_syntax.specs.declared.script.Statement.{Statement}
 use Rattle.vtl_syntax.specs.declared.script.Script.{Script}
 

@@ -1,5 +1,5 @@
 -- The tokens that spell a script: its rulesets, and then its statements, each in their order.
-use Rattle.std.specs.Prelude.{[], ◌∷◌, List, ℕ, Bool, true, false}
+use Rattle.std.specs.Prelude.{Bool, true, false}
 use Rattle.std.specs.List.{flat_map}
 use Rattle.vtl_tokens.specs.declared.sign.Sign.TheVariants as signs
 use Rattle.vtl_syntax.specs.declared.script.Statement.{Statement}

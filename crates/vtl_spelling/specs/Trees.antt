@@ -1,5 +1,4 @@
 -- The tokens that spell an expression, a clause, and what stands in them.
-use Rattle.std.specs.Prelude.{ℕ, List, [], ◌∷◌, Option}
 use Rattle.std.specs.List.{flat_map}
 use Rattle.vtl_tokens.specs.declared.keyword.Keyword.TheVariants as words
 use Rattle.vtl_tokens.specs.declared.sign.Sign.TheVariants as signs
