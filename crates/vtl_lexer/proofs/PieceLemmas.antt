@@ -1,5 +1,5 @@
 -- Words and literals are ASCII, and literals are read as the values that they mean.
-use Rattle.std.proofs.Common.{◌≡◌, ◌==◌, ℕ, zero, suc, ◌+◌, ◌-◌, ◌<◌, ◌≤◌, Bool, true, false, cond, not, ◌&&◌, ◌||◌, List, [], ◌∷◌, length, take, drop, get_or, Option, Some, None, Result, Ok, Err, chars, ℤ, inl, inr, refl, sym, subst, ◌∙◌, ap, arith, length-drop}
+use Rattle.std.proofs.Common.{◌≡◌, ℕ, zero, suc, ◌+◌, ◌-◌, ◌<◌, ◌≤◌, Bool, true, false, cond, not, ◌&&◌, List, [], ◌∷◌, length, take, drop, get_or, Result, Ok, Err, chars, ℤ, inl, inr, refl, sym, subst, ◌∙◌, ap, arith, length-drop}
 use Rattle.std.proofs.lemmas.Bool.Decides.{nat_tests}
 use Rattle.std.proofs.lemmas.Bool.{cases_lt}
 use Rattle.std.proofs.lemmas.List.{get_or-drop, length-take}
@@ -49,7 +49,7 @@ digit_below text i below = digit-lt (get_or text i 0) (not_false (is_ascii_digit
 pub digits-IsAscii : (text : List ℕ) → IsAscii (take (digits_len text) text)
 digits-IsAscii text = IsAscii-take (digits_len text) text (digit_below text)
 
-both : (a b : Bool) → (a && b) ≡ true → (a ≡ true) × (b ≡ true)
+pub both : (a b : Bool) → (a && b) ≡ true → (a ≡ true) × (b ≡ true)
 both true b is = (refl, is)
 both false b is = cc
 
@@ -57,7 +57,7 @@ point_below : (text : List ℕ) → first_passes is_point_byte text ≡ true →
 point_below [] is = cc
 point_below (b ∷ bs) is = grind (arith, nat_tests)
 
-some_passes : (text : List ℕ) (test : ℕ → Bool) → first_passes test text ≡ true → 0 < length text
+pub some_passes : (text : List ℕ) (test : ℕ → Bool) → first_passes test text ≡ true → 0 < length text
 some_passes [] test is = cc
 some_passes (b ∷ bs) test is = omega arith
 

@@ -6,7 +6,7 @@ use Rattle.std.proofs.lemmas.List.{append-nil, drop-drop, length-take, take_all}
 use Rattle.std.proofs.lemmas.Slice.Eq.{slice_eq-Decides}
 use Rattle.std.proofs.lemmas.Str.{IsUtf8-from_is_utf8, is_utf8-from_IsUtf8}
 use Rattle.std.proofs.lemmas.List.Sums.{prefix_len-le-length}
-use Rattle.std.specs.List.{position, position_or_len, starts_with, find}
+use Rattle.std.specs.List.{position, position_or_len, starts_with}
 use Rattle.std.specs.Result.{MatchResult, IsOk}
 use Rattle.std.specs.Str.{IsUtf8, is_utf8}
 use Rattle.vtl_tokens.specs.declared.sign.Sign.{Sign}

@@ -1,4 +1,4 @@
-use Rattle.std.proofs.Common.{◌≡◌, ℕ, ◌+◌, ◌≤◌, drop}
+use Rattle.std.proofs.Common.{◌≡◌, ◌+◌, ◌≤◌, drop}
 use Rattle.vtl_lexer.specs.Places.{place_after}
 use Rattle.vtl_lexer.proofs.lexer.place_after.Given as goal
 

@@ -1,4 +1,4 @@
-use Rattle.std.proofs.Common.{◌≡◌, ◌+◌, ◌≤◌, true, length, take, ap, sym, subst, ◌∙◌, arith, length-drop}
+use Rattle.std.proofs.Common.{◌≡◌, ◌+◌, true, take, ap, sym, subst, ◌∙◌}
 use Rattle.std.specs.Str.{IsAscii}
 use Rattle.vtl_lexer.specs.Answers.{Gives}
 use Rattle.vtl_lexer.specs.Scans.{has_decimals, digits_len, number_len}

@@ -1,4 +1,4 @@
-use Rattle.std.proofs.Common.{◌≡◌, ◌+◌, List, [], Some, None, drop, ap, sym, ◌∙◌, arith, length-drop}
+use Rattle.std.proofs.Common.{◌≡◌, ◌+◌, Some, None, drop, ap, sym, ◌∙◌, arith, length-drop}
 use Rattle.vtl_lexer.specs.Scans.{string_at, string_byte, ahead}
 use Rattle.vtl_lexer.proofs.ScanLemmas.{string_at-more, string_at-end, string_byte-fits, ahead-nothing, rest-is}
 use Rattle.vtl_lexer.proofs.scan.string_at.Goals as goal

@@ -1,4 +1,4 @@
-use Rattle.std.proofs.Common.{◌≡◌, ◌+◌, ◌-◌, ◌≤◌, drop, length}
+use Rattle.std.proofs.Common.{◌≡◌, ◌-◌, ◌≤◌, drop, length}
 use Rattle.vtl_lexer.specs.Scans.{string_at, ahead}
 use Rattle.vtl_lexer.proofs.scan.string_at.Given as goal
 
