@@ -17,4 +17,6 @@ pub mod ScriptRetold
 pub mod Kept
 pub mod KeptTrees
 pub mod KeptScripts
+pub mod KindsHeld
+pub mod Unfolded
 pub mod SpellingLaws

@@ -26,12 +26,12 @@ use Rattle.vtl_spelling.proofs.TailsTold.{tail-told}
 -- ---- names and literals
 
 -- a token's leaf at one place and at another
-abbrev LeafTold : TokenKind → Option Expr → Option Expr → Type 0
+abbrev pub LeafTold : TokenKind → Option Expr → Option Expr → Type 0
 LeafTold w None y = Unit {0}
 LeafTold w (Some e) None = ⊥
 LeafTold w (Some e) (Some f) = (spelled e ≡ one w) × (placeless f ≡ placeless e)
 
-each_leaf : (w : TokenKind) (p q : Place) → LeafTold w (leaf_in w p) (leaf_in w q)
+pub each_leaf : (w : TokenKind) (p q : Place) → LeafTold w (leaf_in w p) (leaf_in w q)
 each_leaf (what.Name n) p q = (folded-Name spelling n p, folded-Name baring n q ∙ sym (folded-Name baring n p))
 each_leaf (what.Integer z) p q = (folded-Literal spelling (value.Integer z) p, folded-Literal baring (value.Integer z) q ∙ sym (folded-Literal baring (value.Integer z) p))
 each_leaf (what.Number z) p q = (folded-Literal spelling (value.Number z) p, folded-Literal baring (value.Number z) q ∙ sym (folded-Literal baring (value.Number z) p))
@@ -42,7 +42,7 @@ each_leaf (what.Reserved words.Null) p q = (folded-Literal spelling value.Null p
 each_leaf _ p q = tt
 
 -- the leaf at the other place
-leaf_there : (w : TokenKind) (x y : Option Expr) → LeafTold w x y → (e : Expr) → x ≡ Some e → (f : Expr) × (y ≡ Some f) × (spelled e ≡ one w) × (placeless f ≡ placeless e)
+pub leaf_there : (w : TokenKind) (x y : Option Expr) → LeafTold w x y → (e : Expr) → x ≡ Some e → (f : Expr) × (y ≡ Some f) × (spelled e ≡ one w) × (placeless f ≡ placeless e)
 leaf_there w None y t e is = absurd cc
 leaf_there w (Some d) None t e is = absurd t
 leaf_there w (Some d) (Some f) t e is =

@@ -1,6 +1,7 @@
 pub mod Words
 pub mod Kinds
 pub mod Parts
+pub mod Shapes
 pub mod Trees
 pub mod Rulesets
 pub mod Scripts

@@ -11,4 +11,12 @@ mod calls;
 mod kinds;
 pub mod laws;
 mod parts;
+mod rulesets;
+mod scripts;
+mod trees;
 mod words;
+
+pub use scripts::spell;
+
+#[cfg(test)]
+mod tests;
