@@ -7,6 +7,7 @@ use Rattle.std.specs.List.{prefix_len, position_or_len, list_any, list_all}
 use Rattle.vtl_lexer.specs.declared.start.Start.TheVariants.{Literal, Word}
 use Rattle.vtl_lexer.specs.Starts.{APOSTROPHE, QUOTE, SLASH, is_blank, first_passes, start_at, start_of}
 use Rattle.vtl_lexer.specs.Scans.{word_len, digits_len, is_point_byte}
+use Rattle.vtl_lexer.proofs.PieceLemmas.{both}
 use Rattle.vtl_layout.proofs.CharBytes.{neither, is_quote}
 
 -- what goes on with no token: nothing, or one of these bytes and more
@@ -65,10 +66,6 @@ position-none test (x ∷ xs) none =
 -- the first that passes stands behind those that don't
 pub position-first : (test : ℕ → Bool) (xs ys : List ℕ) (y : ℕ) → list_any test xs ≡ false → test y ≡ true → position_or_len test (xs ++ y ∷ ys) ≡ length xs
 position-first test xs ys y none passes = stops _ xs (y ∷ ys) (position-none test xs none) (rw passes refl)
-
-pub both : (a b : Bool) → (a && b) ≡ true → (a ≡ true) × (b ≡ true)
-both true b is = (refl, is)
-both false b is = cc
 
 digits_len-all : (digits : List ℕ) → list_all is_ascii_digit digits ≡ true → digits_len digits ≡ length digits
 digits_len-all [] all = refl

@@ -29,7 +29,8 @@ use Rattle.vtl_lexer.specs.declared.stop.LexFault.{LexFault}
 use Rattle.vtl_lexer.specs.Pieces.{Piece, literal_piece}
 use Rattle.vtl_layout.specs.Tokens.{IsIntegerLiteral, IsNumberLiteral}
 use Rattle.vtl_layout.specs.Spellings.{number_literal}
-use Rattle.vtl_layout.proofs.Fronts.{Rest, bytes, no_point, both, digits_stop, digits_stop_at, literal_start}
+use Rattle.vtl_lexer.proofs.PieceLemmas.{both}
+use Rattle.vtl_layout.proofs.Fronts.{Rest, bytes, no_point, digits_stop, digits_stop_at, literal_start}
 use Rattle.vtl_layout.proofs.Words.{Reads, at_start}
 
 digits_begin : (digits rest : List ℕ) → list_all is_ascii_digit digits ≡ true → 0 < length digits → first_passes is_ascii_digit (digits ++ rest) ≡ true

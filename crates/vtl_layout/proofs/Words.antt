@@ -23,7 +23,8 @@ use Rattle.vtl_lexer.specs.Pieces.{Piece, piece_of, piece_at, quoted_name, text_
 use Rattle.vtl_layout.specs.Tokens.{IsName}
 use Rattle.vtl_layout.specs.Spellings.{between, has_name_shape, is_bare, name_text, doubled}
 use Rattle.vtl_layout.proofs.CharBytes.{any-encodes, ends_name-PassesAscii, is_quote}
-use Rattle.vtl_layout.proofs.Fronts.{Rest, bytes, no_quote, word_stops, position-first, both, word_start}
+use Rattle.vtl_lexer.proofs.PieceLemmas.{both}
+use Rattle.vtl_layout.proofs.Fronts.{Rest, bytes, no_quote, word_stops, position-first, word_start}
 
 -- the text is read as this kind, before that
 abbrev pub Reads : List ℕ → List ℕ → TokenKind → Type 0

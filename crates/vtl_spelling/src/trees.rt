@@ -2,7 +2,7 @@
 ghost use Rattle.std.specs.Prelude.{◌≡◌, [], ◌++◌, if◌then◌else◌, OnOk};
 ghost use Rattle.std.specs.List.{flat_map};
 ghost use Rattle.vtl_spelling.specs.Kinds.{◌&◌, one, key, comma, commas, open_paren, close_paren, optional};
-ghost use Rattle.vtl_spelling.specs.Shapes.{shape_of, between_operands, own_word, behind_operand, one_operand_call, operands_call, join_call, aggregate_call, check_call};
+ghost use Rattle.vtl_spelling.specs.Shapes.{shape_of, between_conditions, between_operands, own_word, behind_operand, one_operand_call, two_operands_call, operands_call, join_call, aggregate_call, check_call, hierarchical_call};
 ghost use Rattle.vtl_spelling.specs.Trees.{spelled, clause_spelled, groups_spelled, item_spelled, operand_spelled, range_spelled};
 
 use crate::calls::{
@@ -25,8 +25,8 @@ pub(crate) fn expr(tree: &Expr, out: &mut Vec<TokenKind>) -> Result<(), AllocErr
         Expr::Name { name, .. } => name.spell(out),
         Expr::CountAll { .. } => count_all(out),
         Expr::Rank { over, .. } => rank(over, out),
-        Expr::Or { .. } => infix(tree, out),
-        Expr::And { .. } => infix(tree, out),
+        Expr::Or { .. } => logical(tree, out),
+        Expr::And { .. } => logical(tree, out),
         Expr::Compare { .. } => infix(tree, out),
         Expr::Sum { .. } => infix(tree, out),
         Expr::Product { .. } => infix(tree, out),
@@ -40,27 +40,27 @@ pub(crate) fn expr(tree: &Expr, out: &mut Vec<TokenKind>) -> Result<(), AllocErr
         Expr::Round { .. } => one_operand(tree, out),
         Expr::Between { .. } => one_operand(tree, out),
         Expr::MatchCharacters { .. } => one_operand(tree, out),
-        Expr::Binary { .. } => operands(tree, out),
-        Expr::Difference { .. } => operands(tree, out),
+        Expr::Binary { .. } => two_operands(tree, out),
+        Expr::Difference { .. } => two_operands(tree, out),
         Expr::Substr { .. } => operands(tree, out),
         Expr::Replace { .. } => operands(tree, out),
-        Expr::ExistsIn { .. } => operands(tree, out),
+        Expr::ExistsIn { .. } => two_operands(tree, out),
         Expr::Sets { .. } => operands(tree, out),
         Expr::Join { .. } => join(tree, out),
         Expr::Aggregate { .. } => aggregate(tree, out),
         Expr::Window { .. } => aggregate(tree, out),
         Expr::Offset { .. } => aggregate(tree, out),
         Expr::CheckDatapoint { .. } => check(tree, out),
-        Expr::Hierarchy { .. } => check(tree, out),
-        Expr::CheckHierarchy { .. } => check(tree, out),
+        Expr::Hierarchy { .. } => hierarchical(tree, out),
+        Expr::CheckHierarchy { .. } => hierarchical(tree, out),
         Expr::Check { .. } => check(tree, out),
     }
 }
 
-/// An operator between its operands.
+/// `or`, `xor` or `and` between conditions.
 #[cycle(spelling)]
-fn infix(tree: &Expr, out: &mut Vec<TokenKind>) -> Result<(), AllocError>
-    requires { shape_of tree.now ≡ between_operands }
+fn logical(tree: &Expr, out: &mut Vec<TokenKind>) -> Result<(), AllocError>
+    requires { shape_of tree.now ≡ between_conditions }
     ensures { OnOk result (out.new.items ≡ out.old.items ++ spelled tree.now) }
 {
     match tree {
@@ -77,6 +77,17 @@ fn infix(tree: &Expr, out: &mut Vec<TokenKind>) -> Result<(), AllocError>
             before(left.get(), TokenKind::Reserved(Keyword::And), out)?;
             expr(right.get(), out)
         }
+        _ => Ok(()),
+    }
+}
+
+/// An operator between its operands.
+#[cycle(spelling)]
+fn infix(tree: &Expr, out: &mut Vec<TokenKind>) -> Result<(), AllocError>
+    requires { shape_of tree.now ≡ between_operands }
+    ensures { OnOk result (out.new.items ≡ out.old.items ++ spelled tree.now) }
+{
+    match tree {
         Expr::Compare {
             left,
             sign,
@@ -235,10 +246,10 @@ fn one_operand(tree: &Expr, out: &mut Vec<TokenKind>) -> Result<(), AllocError>
     }
 }
 
-/// A call of several operands.
+/// A call of two operands.
 #[cycle(spelling)]
-fn operands(tree: &Expr, out: &mut Vec<TokenKind>) -> Result<(), AllocError>
-    requires { shape_of tree.now ≡ operands_call }
+fn two_operands(tree: &Expr, out: &mut Vec<TokenKind>) -> Result<(), AllocError>
+    requires { shape_of tree.now ≡ two_operands_call }
     ensures { OnOk result (out.new.items ≡ out.old.items ++ spelled tree.now) }
 {
     match tree {
@@ -260,6 +271,27 @@ fn operands(tree: &Expr, out: &mut Vec<TokenKind>) -> Result<(), AllocError>
             call(function.kind(), left.get(), out)?;
             last_operand(right.get(), out)
         }
+        Expr::ExistsIn {
+            left,
+            right,
+            rows,
+            ..
+        } => {
+            worded_call(Keyword::ExistsIn, left.get(), out)?;
+            next_operand(right.get(), out)?;
+            self::rows(rows, out)
+        }
+        _ => Ok(()),
+    }
+}
+
+/// A call of some operands.
+#[cycle(spelling)]
+fn operands(tree: &Expr, out: &mut Vec<TokenKind>) -> Result<(), AllocError>
+    requires { shape_of tree.now ≡ operands_call }
+    ensures { OnOk result (out.new.items ≡ out.old.items ++ spelled tree.now) }
+{
+    match tree {
         Expr::Substr { operand, range, .. } => {
             worded_call(Keyword::Substr, operand.get(), out)?;
             optional_range(range, out)?;
@@ -275,16 +307,6 @@ fn operands(tree: &Expr, out: &mut Vec<TokenKind>) -> Result<(), AllocError>
             next_operand(pattern.get(), out)?;
             optional_operand(by, out)?;
             Sign::RightParen.spell(out)
-        }
-        Expr::ExistsIn {
-            left,
-            right,
-            rows,
-            ..
-        } => {
-            worded_call(Keyword::ExistsIn, left.get(), out)?;
-            next_operand(right.get(), out)?;
-            self::rows(rows, out)
         }
         Expr::Sets {
             function,
@@ -374,7 +396,7 @@ fn aggregate(tree: &Expr, out: &mut Vec<TokenKind>) -> Result<(), AllocError>
     }
 }
 
-/// A check of a condition or of a ruleset.
+/// A check of a condition or of the rules of a datapoint ruleset.
 #[cycle(spelling)]
 fn check(tree: &Expr, out: &mut Vec<TokenKind>) -> Result<(), AllocError>
     requires { shape_of tree.now ≡ check_call }
@@ -390,6 +412,30 @@ fn check(tree: &Expr, out: &mut Vec<TokenKind>) -> Result<(), AllocError>
             worded_call(Keyword::CheckDatapoint, operand.get(), out)?;
             datapoint_check(ruleset, output, out)
         }
+        Expr::Check {
+            operand,
+            code,
+            level,
+            imbalance,
+            output,
+            ..
+        } => {
+            worded_call(Keyword::Check, operand.get(), out)?;
+            fault(code, level, out)?;
+            optional_imbalance(imbalance, out)?;
+            check_output(output, out)
+        }
+        _ => Ok(()),
+    }
+}
+
+/// A call by a hierarchical ruleset.
+#[cycle(spelling)]
+fn hierarchical(tree: &Expr, out: &mut Vec<TokenKind>) -> Result<(), AllocError>
+    requires { shape_of tree.now ≡ hierarchical_call }
+    ensures { OnOk result (out.new.items ≡ out.old.items ++ spelled tree.now) }
+{
+    match tree {
         Expr::Hierarchy {
             operand,
             ruleset,
@@ -415,19 +461,6 @@ fn check(tree: &Expr, out: &mut Vec<TokenKind>) -> Result<(), AllocError>
             worded_call(Keyword::CheckHierarchy, operand.get(), out)?;
             both(&Sign::Comma, ruleset, out)?;
             hierarchy_check(component, mode, input, output, out)
-        }
-        Expr::Check {
-            operand,
-            code,
-            level,
-            imbalance,
-            output,
-            ..
-        } => {
-            worded_call(Keyword::Check, operand.get(), out)?;
-            fault(code, level, out)?;
-            optional_imbalance(imbalance, out)?;
-            check_output(output, out)
         }
         _ => Ok(()),
     }

@@ -127,8 +127,8 @@ operands-more_operands-requires t c =
     let m : most expr_size c.as_slice.result.now ≡ most expr_size c.in-Sets.others = ap (most expr_size) c.as_slice.ensures in
     (search (rules, the_lemmas, d, m), tt)
 
-pub operands-returns-in_ok-call-in-Binary : goal.operands-returns-in_ok-call-in-Binary
-operands-returns-in_ok-call-in-Binary t c =
+pub two_operands-returns-in_ok-call-in-Binary : goal.two_operands-returns-in_ok-call-in-Binary
+two_operands-returns-in_ok-call-in-Binary t c =
     let o = c.args.out.now.items in
     let z = c.last_operand.new.out.items in
     let x0 : Kinds = one c.kind.result & open_paren & spelled c.get.result.now in
@@ -136,8 +136,8 @@ operands-returns-in_ok-call-in-Binary t c =
     let is : spelled c.args.tree.now ≡ x0 ++ y = rw (c.kind.ensures, c.get.ensures, c.get-in-Binary.ensures, c.in-Binary.is) (folded-Binary spelling c.in-Binary.function c.in-Binary.left c.in-Binary.right c.in-Binary.place) in
     last c.last_operand.result o z (spelled c.args.tree.now) (x0 ++ y) is (behind c.last_operand.result o c.call.new.out.items z x0 y (c.in_ok-call-in-Binary.ensures {u = tt}) c.last_operand.ensures)
 
-pub operands-returns-in_ok-call-in-Difference : goal.operands-returns-in_ok-call-in-Difference
-operands-returns-in_ok-call-in-Difference t c =
+pub two_operands-returns-in_ok-call-in-Difference : goal.two_operands-returns-in_ok-call-in-Difference
+two_operands-returns-in_ok-call-in-Difference t c =
     let o = c.args.out.now.items in
     let z = c.last_operand-in-Difference.new.out.items in
     let x0 : Kinds = one c.kind-in-Difference.result & open_paren & spelled c.get-in-Difference.result.now in
@@ -149,10 +149,10 @@ pub operands-returns-in_ok-optional_range-in-Substr : goal.operands-returns-in_o
 operands-returns-in_ok-optional_range-in-Substr t c =
     let o = c.args.out.now.items in
     let z = c.spell.new.out.items in
-    let x0 : Kinds = key words.Substr & open_paren & spelled c.get-in-Substr.result.now in
+    let x0 : Kinds = key words.Substr & open_paren & spelled c.get.result.now in
     let x1 : Kinds = optional range_spelled c.in-Substr.range in
     let y : Kinds = close_paren in
-    let is : spelled c.args.tree.now ≡ x0 ++ (x1 ++ y) = rw (c.get-in-Substr.ensures, c.in-Substr.is) (substr-spelled c.in-Substr.operand c.in-Substr.range c.in-Substr.place) in
+    let is : spelled c.args.tree.now ≡ x0 ++ (x1 ++ y) = rw (c.get.ensures, c.in-Substr.is) (substr-spelled c.in-Substr.operand c.in-Substr.range c.in-Substr.place) in
     last c.spell.result o z (spelled c.args.tree.now) (x0 ++ (x1 ++ y)) is (behind c.spell.result o c.worded_call.new.out.items z x0 (x1 ++ y) (c.in_ok-worded_call-in-Substr.ensures {u = tt}) (behind c.spell.result c.worded_call.new.out.items c.optional_range.new.out.items z x1 y (c.in_ok-optional_range-in-Substr.ensures {u = tt}) c.spell.ensures))
 
 pub operands-returns-in_ok-optional_operand-in-Replace : goal.operands-returns-in_ok-optional_operand-in-Replace
@@ -166,23 +166,23 @@ operands-returns-in_ok-optional_operand-in-Replace t c =
     let is : spelled c.args.tree.now ≡ x0 ++ (x1 ++ (x2 ++ y)) = rw (c.get-in-Replace.ensures, c.get-in-Replace-2.ensures, c.in-Replace.is) (replace-spelled c.in-Replace.operand c.in-Replace.pattern c.in-Replace.by c.in-Replace.place) in
     last c.spell-in-Replace.result o z (spelled c.args.tree.now) (x0 ++ (x1 ++ (x2 ++ y))) is (behind c.spell-in-Replace.result o c.worded_call-in-Replace.new.out.items z x0 (x1 ++ (x2 ++ y)) (c.in_ok-worded_call-in-Replace.ensures {u = tt}) (behind c.spell-in-Replace.result c.worded_call-in-Replace.new.out.items c.next_operand.new.out.items z x1 (x2 ++ y) (c.in_ok-next_operand-in-Replace.ensures {u = tt}) (behind c.spell-in-Replace.result c.next_operand.new.out.items c.optional_operand.new.out.items z x2 y (c.in_ok-optional_operand-in-Replace.ensures {u = tt}) c.spell-in-Replace.ensures)))
 
-pub operands-returns-in_ok-next_operand-in-ExistsIn : goal.operands-returns-in_ok-next_operand-in-ExistsIn
-operands-returns-in_ok-next_operand-in-ExistsIn t c =
+pub two_operands-returns-in_ok-next_operand-in-ExistsIn : goal.two_operands-returns-in_ok-next_operand-in-ExistsIn
+two_operands-returns-in_ok-next_operand-in-ExistsIn t c =
     let o = c.args.out.now.items in
     let z = c.rows.new.out.items in
     let x0 : Kinds = key words.ExistsIn & open_paren & spelled c.get-in-ExistsIn.result.now in
     let x1 : Kinds = comma & spelled c.get-in-ExistsIn-2.result.now in
     let y : Kinds = optional (λ w. comma & one (exists_rows_kind w)) c.in-ExistsIn.rows & close_paren in
     let is : spelled c.args.tree.now ≡ x0 ++ (x1 ++ y) = rw (c.get-in-ExistsIn.ensures, c.get-in-ExistsIn-2.ensures, c.in-ExistsIn.is) (folded-ExistsIn spelling c.in-ExistsIn.left c.in-ExistsIn.right c.in-ExistsIn.rows c.in-ExistsIn.place) in
-    last c.rows.result o z (spelled c.args.tree.now) (x0 ++ (x1 ++ y)) is (behind c.rows.result o c.worded_call-in-ExistsIn.new.out.items z x0 (x1 ++ y) (c.in_ok-worded_call-in-ExistsIn.ensures {u = tt}) (behind c.rows.result c.worded_call-in-ExistsIn.new.out.items c.next_operand-in-ExistsIn.new.out.items z x1 y (c.in_ok-next_operand-in-ExistsIn.ensures {u = tt}) c.rows.ensures))
+    last c.rows.result o z (spelled c.args.tree.now) (x0 ++ (x1 ++ y)) is (behind c.rows.result o c.worded_call.new.out.items z x0 (x1 ++ y) (c.in_ok-worded_call-in-ExistsIn.ensures {u = tt}) (behind c.rows.result c.worded_call.new.out.items c.next_operand.new.out.items z x1 y (c.in_ok-next_operand-in-ExistsIn.ensures {u = tt}) c.rows.ensures))
 
 pub operands-returns-in_ok-more_operands-in-Sets : goal.operands-returns-in_ok-more_operands-in-Sets
 operands-returns-in_ok-more_operands-in-Sets t c =
     let o = c.args.out.now.items in
     let z = c.spell-in-Sets.new.out.items in
-    let x0 : Kinds = one c.kind-in-Sets.result & open_paren & spelled c.get-in-Sets.result.now in
+    let x0 : Kinds = one c.kind.result & open_paren & spelled c.get-in-Sets.result.now in
     let x1 : Kinds = comma & spelled c.get-in-Sets-2.result.now in
     let x2 : Kinds = flat_map (λ b. comma & spelled b) c.as_slice.result.now in
     let y : Kinds = close_paren in
-    let is : spelled c.args.tree.now ≡ x0 ++ (x1 ++ (x2 ++ y)) = rw (c.kind-in-Sets.ensures, c.get-in-Sets.ensures, c.get-in-Sets-2.ensures, c.as_slice.ensures, c.in-Sets.is) (sets-spelled c.in-Sets.function c.in-Sets.first c.in-Sets.second c.in-Sets.others c.in-Sets.place) in
-    last c.spell-in-Sets.result o z (spelled c.args.tree.now) (x0 ++ (x1 ++ (x2 ++ y))) is (behind c.spell-in-Sets.result o c.call-in-Sets.new.out.items z x0 (x1 ++ (x2 ++ y)) (c.in_ok-call-in-Sets.ensures {u = tt}) (behind c.spell-in-Sets.result c.call-in-Sets.new.out.items c.next_operand-in-Sets.new.out.items z x1 (x2 ++ y) (c.in_ok-next_operand-in-Sets.ensures {u = tt}) (behind c.spell-in-Sets.result c.next_operand-in-Sets.new.out.items c.more_operands.new.out.items z x2 y (c.in_ok-more_operands-in-Sets.ensures {u = tt}) c.spell-in-Sets.ensures)))
+    let is : spelled c.args.tree.now ≡ x0 ++ (x1 ++ (x2 ++ y)) = rw (c.kind.ensures, c.get-in-Sets.ensures, c.get-in-Sets-2.ensures, c.as_slice.ensures, c.in-Sets.is) (sets-spelled c.in-Sets.function c.in-Sets.first c.in-Sets.second c.in-Sets.others c.in-Sets.place) in
+    last c.spell-in-Sets.result o z (spelled c.args.tree.now) (x0 ++ (x1 ++ (x2 ++ y))) is (behind c.spell-in-Sets.result o c.call.new.out.items z x0 (x1 ++ (x2 ++ y)) (c.in_ok-call-in-Sets.ensures {u = tt}) (behind c.spell-in-Sets.result c.call.new.out.items c.next_operand-in-Sets.new.out.items z x1 (x2 ++ y) (c.in_ok-next_operand-in-Sets.ensures {u = tt}) (behind c.spell-in-Sets.result c.next_operand-in-Sets.new.out.items c.more_operands.new.out.items z x2 y (c.in_ok-more_operands-in-Sets.ensures {u = tt}) c.spell-in-Sets.ensures)))
