@@ -1,0 +1,12 @@
+pub mod Tails
+pub mod ShownDeep
+pub mod Operands
+pub mod Ends
+pub mod Calls
+pub mod Pieces
+pub mod Whole
+pub mod Answered
+pub mod Ended
+pub mod RuleLists
+pub mod RuleParts
+pub mod RuleFaults

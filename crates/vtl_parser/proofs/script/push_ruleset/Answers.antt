@@ -1,0 +1,32 @@
+use Rattle.std.proofs.Common.{◌≡◌, ℕ, arith}
+use Rattle.std.proofs.lemmas.Result.{err_from_is_err_and}
+use Rattle.vtl_grammar.specs.Rulesets.{ruleset_rule}
+use Rattle.vtl_grammar.specs.Reading.{part_at}
+use Rattle.vtl_cursor.specs.Limits.{limits}
+use Rattle.vtl_cursor.proofs.Takes.{plain-takes, part-takes}
+use Rattle.vtl_parser.specs.RuleParts.{rule_read}
+use Rattle.vtl_parser.proofs.Tails.{fails-too}
+use Rattle.vtl_parser.proofs.Pieces.{ruleset-goes, ruleset-halts, ruleset-refused}
+use Rattle.vtl_parser.proofs.script.push_ruleset.Goals as goal
+
+pub returns-then-len-eq-MOST_RULESETS-clause-stop : goal.returns-then-len-eq-MOST_RULESETS-clause-stop
+returns-then-len-eq-MOST_RULESETS-clause-stop c = ruleset-refused c.args.depth c.args.script.now c.args.cursor.now.tokens.now (omega arith) c.requires.name c.requires.define
+
+pub returns-in_err-ruleset-clause-stop : goal.returns-in_err-ruleset-clause-stop
+returns-in_err-ruleset-clause-stop c =
+    let p = err_from_is_err_and c.from_residual.result c.from_residual.ensures.1 in
+    let statements = c.requires.few.statements in
+    let rulesets = c.requires.few.rulesets in
+    rw (p.1, p.2) (fails-too c.in_err-ruleset.field-0.0 c.ruleset.new.cursor.tokens.now _ _
+    (λ k is. ruleset-halts c.args.depth c.args.script.now c.args.cursor.now.tokens.now c.ruleset.new.cursor.tokens.now k (omega arith) c.requires.name c.requires.define is)
+    c.in_err-ruleset.ensures)
+
+pub returns-clause-read : goal.returns-clause-read
+returns-clause-read c =
+    let statements = c.requires.few.statements in
+    let rulesets = c.requires.few.rulesets in
+    rw c.in_ok-push.ensures.ok (ruleset-goes c.args.depth c.args.script.now c.args.cursor.now.tokens.now c.ruleset.new.cursor.tokens.now c.in_ok-ruleset.ruleset _ (omega arith) c.requires.name c.requires.define c.in_ok-ruleset.ensures)
+
+pub returns-clause-less : goal.returns-clause-less
+unfolding rule_read
+returns-clause-less c = plain-takes limits (part_at limits c.args.depth) (part-takes limits c.args.depth) ruleset_rule c.args.cursor.now.tokens.now _ c.in_ok-ruleset.ensures.reads
