@@ -1,9 +1,5 @@
--- The two fixed texts (docs/formats.md, "Plain forms").
+-- The fixed text of the structures (docs/formats.md, "Plain forms").
 use Rattle.std.specs.Prelude.{◌≡◌, ℕ, List, ◌++◌, ◌⊎◌, codes}
-
--- the script: one sum of two data sets
-abbrev pub SCRIPT : List ℕ
-SCRIPT = codes "R <- A + B;"
 
 -- the structures of the data sets A and B, which are alike: a text identifies a number
 abbrev pub STRUCTURES : List ℕ

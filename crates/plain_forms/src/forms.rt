@@ -1,18 +1,9 @@
-// The script and the structure file.
+// The structure file.
 ghost use Rattle.std.specs.Prelude.{◌≡◌, ◌↔◌, IsTrue};
-ghost use Rattle.plain_forms.specs.Forms.{SCRIPT, STRUCTURES, IsForm};
-
-const SCRIPT_TEXT: &str = "R <- A + B;";
+ghost use Rattle.plain_forms.specs.Forms.{STRUCTURES, IsForm};
 
 const STRUCTURES_TEXT: &str =
     "{\"datasets\":[{\"name\":\"A\",\"components\":[{\"name\":\"Id\",\"role\":\"identifier\",\"type\":\"string\"},{\"name\":\"Me\",\"role\":\"measure\",\"type\":\"number\"}]},{\"name\":\"B\",\"components\":[{\"name\":\"Id\",\"role\":\"identifier\",\"type\":\"string\"},{\"name\":\"Me\",\"role\":\"measure\",\"type\":\"number\"}]}]}";
-
-/// Whether the bytes are the script `R <- A + B;`, with or without one line end behind it.
-pub fn is_script(bytes: &[u8]) -> bool
-    ensures { IsTrue result ↔ IsForm SCRIPT bytes.now }
-{
-    is_form(SCRIPT_TEXT.as_bytes(), bytes)
-}
 
 /// Whether the bytes are the structure file of the data sets `A` and `B`, each with the identifier `Id` (string) and
 /// the measure `Me` (number), on one line, with or without one line end behind it.

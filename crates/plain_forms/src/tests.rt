@@ -1,4 +1,4 @@
-use crate::{PlainStop, is_script, is_structures, read_plain};
+use crate::{PlainStop, is_structures, read_plain};
 use std::alloc::{AllocError, Global};
 use std::fmt::Write;
 use std::test::Fail;
@@ -81,24 +81,16 @@ fn reads_up_to_the_limits(rt: HostRuntime) -> Result<(), Fail> {
 }
 
 #[test]
-fn tells_the_fixed_texts(rt: HostRuntime) -> Result<(), Fail> {
-    for (script, want) in [
-        ("R <- A + B;", true),
-        ("R <- A + B;\n", true),
-        ("R <- A + B;\n\n", false),
-        ("R <- A + B;\r\n", false),
-        ("R <- B + A;", false),
-        ("", false),
-        ("\n", false),
-    ] {
-        assert_eq!(rt; is_script(script.as_bytes()), want, "at {script:?}");
-    }
+fn tells_the_structure_file(rt: HostRuntime) -> Result<(), Fail> {
     let components =
         "[{\"name\":\"Id\",\"role\":\"identifier\",\"type\":\"string\"},{\"name\":\"Me\",\"role\":\"measure\",\"type\":\"number\"}]";
     let structures = format!(in rt.alloc();
         "{{\"datasets\":[{{\"name\":\"A\",\"components\":{components}}},{{\"name\":\"B\",\"components\":{components}}}]}}"
     )?;
-    assert!(rt; is_structures(structures.as_bytes()));
+    for (end, want) in [("", true), ("\n", true), ("\n\n", false), ("\r\n", false)] {
+        let text = format!(in rt.alloc(); "{structures}{end}")?;
+        assert_eq!(rt; is_structures(text.as_bytes()), want, "before {end:?}");
+    }
     assert!(rt; !is_structures(components.as_bytes()));
     Ok(())
 }

@@ -1,9 +1,10 @@
 -- Plain scripts are checked: each statement is the sum of what stands before it.
-use Rattle.std.proofs.Common.{◌≡◌, ◌≢◌, ◌⊎◌, ℕ, zero, suc, ◌+◌, ◌<◌, ◌≤◌, Bool, true, false, if◌then◌else◌, List, [], ◌∷◌, ◌++◌, map, length, get_or, Option, Some, None, codes, refl, sym, ap, subst, ◌∙◌, inl, inr, arith, lit≤}
-use Rattle.std.specs.Prelude.{⊤, All, AllPairs, Contains, position, slice_get, nat_le}
+use Rattle.std.proofs.Common.{◌≡◌, ◌≢◌, ◌⊎◌, ℕ, zero, suc, ◌+◌, ◌<◌, ◌≤◌, Bool, true, false, if◌then◌else◌, List, [], ◌∷◌, ◌++◌, map, length, get_or, Option, Some, None, nat_eq, refl, sym, ap, subst, ◌∙◌, inl, inr, arith, lit≤}
+use Rattle.std.specs.Prelude.{⊤, All, AllPairs, Contains, position, slice_get, nat_le, nat_lt, ◌&&◌}
 use Rattle.std.specs.List.{range_with_len}
 use Rattle.std.specs.Option.{option_map, option_and_then}
-use Rattle.std.specs.Str.{bytes_eq}
+use Rattle.std.specs.Cmp.Lexicographic.{pointwise}
+use Rattle.std.specs.Map.{keys_of}
 use Rattle.std.proofs.lemmas.Bool.{cases_lt}
 use Rattle.std.proofs.lemmas.Bool.Decides.{nat_tests}
 use Rattle.std.proofs.lemmas.List.{length-append, length-map, get_or_at, get_or_append_left}
@@ -27,9 +28,12 @@ use Rattle.checked_trees.specs.Expressions.{Expression, Named, Applied, none, mo
 use Rattle.checked_trees.specs.Typing.{HasStructure}
 use Rattle.checked_trees.specs.Scripts.{Script, structure_of_source, names_in, names_of, IsOneOf, FollowOperands, IsTypedStatement, IsOrder, IsChecked}
 use Rattle.plain_scripts.specs.Inputs.{ID_AND_ME, STRUCTURES}
-use Rattle.plain_scripts.specs.Lines.{Sum, sum_of, lines_of}
-use Rattle.plain_scripts.specs.Statements.{source_of, is_new, sum_tree, sign_place, sum_statement, statement_of}
-use Rattle.plain_scripts.specs.Scripts.{MOST_LINES, statements_of, script_of, plain_script}
+use Rattle.vtl_values.specs.Structures.{number_of}
+use Rattle.vtl_syntax.specs.declared.script.Statement.{Statement}
+use Rattle.vtl_syntax.specs.declared.script.Script as raw
+use Rattle.plain_scripts.specs.Sums.{Sum, sum_of}
+use Rattle.plain_scripts.specs.Statements.{input_or_result, source_of, is_new, sum_tree, sum_statement, statement_of}
+use Rattle.plain_scripts.specs.Scripts.{MOST_STATEMENTS, statements_of, script_of, has_few, plain_script}
 
 -- what statement i may name: an input, or the result of a statement before it
 pub IsEarlier : ℕ → Source → Type 0
@@ -61,17 +65,18 @@ AreSums-push statements statement sums last k d h =
           subst (IsSumAt k) (sym (get_or_at statements statement [] d k e)) (subst (λ n. IsSumAt n statement) e last)
     ]
 
-choice : (a b : Bool) (at : Option ℕ) (n : ℕ) (s : Source) → ((i : ℕ) → at ≡ Some i → i < n) → (if a then Some (Input 0) else if b then Some (Input 1) else option_map Result at) ≡ Some s → IsEarlier n s
+choice : (input at : Option ℕ) (n : ℕ) (s : Source) → ((i : ℕ) → input ≡ Some i → i < 2) → ((i : ℕ) → at ≡ Some i → i < n) → input_or_result input at ≡ Some s → IsEarlier n s
 unfolding IsEarlier
-choice true b at n s below e = let same : Input 0 ≡ s = cc in subst (IsEarlier n) same (lit≤ tt)
-choice false true at n s below e = let same : Input 1 ≡ s = cc in subst (IsEarlier n) same (lit≤ tt)
-choice false false None n s below e = cc
-choice false false (Some i) n s below e = let same : Result i ≡ s = cc in subst (IsEarlier n) same (below i refl)
+choice (Some k) at n s known below e = let same : Input k ≡ s = cc in subst (IsEarlier n) same (known k refl)
+choice None None n s known below e = cc
+choice None (Some i) n s known below e = let same : Result i ≡ s = cc in subst (IsEarlier n) same (below i refl)
 
 -- a name stands for an input or for an earlier result
 pub source_of-earlier : (names : List (List ℕ)) (name : List ℕ) (s : Source) → source_of names name ≡ Some s → IsEarlier (length names) s
 source_of-earlier names name s e =
-    choice (bytes_eq name (codes "A")) (bytes_eq name (codes "B")) (position (bytes_eq name) names) (length names) s (λ i h. (position-Some (bytes_eq name) names i [] h).0) e
+    choice (number_of STRUCTURES name) (position (pointwise nat_eq name) names) (length names) s
+    (λ i h. (position-Some (pointwise nat_eq name) (keys_of STRUCTURES) i [] h).0)
+    (λ i h. (position-Some (pointwise nat_eq name) names i [] h).0) e
 
 pub some_then : {X Y : Type 0} (f : X → Option Y) (o : Option X) (y : Y) → option_and_then f o ≡ Some y → (x : X) × (o ≡ Some x) × (f x ≡ Some y)
 some_then f None y e = cc
@@ -85,16 +90,15 @@ pub some_if : {X : Type 0} (b : Bool) (o : Option X) (x : X) → (if b then o el
 some_if true o x e = (refl, e)
 some_if false o x e = cc
 
--- the statement of a line is such a sum
+-- the statement of a sum is such a one
 pub statement_of-sum : (names : List (List ℕ)) (sum : Sum) (statement : CheckedStatement) → statement_of names sum ≡ Some statement → IsSumAt (length names) statement
 statement_of-sum names sum statement e =
-    let place : Place = sign_place (length names + 1) sum in
-    let p = some_if (is_new names sum.name) (option_and_then (λ left. option_map (sum_statement sum.name place left) (source_of names sum.right)) (source_of names sum.left)) statement e in
-    let l = some_then (λ left. option_map (sum_statement sum.name place left) (source_of names sum.right)) (source_of names sum.left) statement p.1 in
-    let r = some_map (sum_statement sum.name place l.0) (source_of names sum.right) statement l.2 in
+    let p = some_if (is_new names sum.name) (option_and_then (λ left. option_map (sum_statement sum.name sum.sign left) (source_of names sum.right)) (source_of names sum.left)) statement e in
+    let l = some_then (λ left. option_map (sum_statement sum.name sum.sign left) (source_of names sum.right)) (source_of names sum.left) statement p.1 in
+    let r = some_map (sum_statement sum.name sum.sign l.0) (source_of names sum.right) statement l.2 in
     record {
       name = sum.name;
-      place = place;
+      place = sum.sign;
       left = l.0;
       right = r.0;
       is = sym r.2;
@@ -102,17 +106,17 @@ statement_of-sum names sum statement e =
       right_earlier = source_of-earlier names sum.right r.0 r.1;
     }
 
--- the statements of a script are such sums, as many as it has lines
-pub statements_of-sums : (before : List CheckedStatement) (lines : List (List ℕ)) (all : List CheckedStatement) → AreSums before → statements_of before lines ≡ Some all → AreSums all × (length all ≡ length before + length lines)
+-- the statements of a script are such sums, as many as it has trees
+pub statements_of-sums : (before : List CheckedStatement) (trees : List Statement) (all : List CheckedStatement) → AreSums before → statements_of before trees ≡ Some all → AreSums all × (length all ≡ length before + length trees)
 statements_of-sums before [] all sums e =
     let same : before ≡ all = cc in
     (subst AreSums same sums, ap length (sym same) ∙ omega arith)
-statements_of-sums before (line ∷ lines) all sums e =
+statements_of-sums before (tree ∷ trees) all sums e =
     let names : List (List ℕ) = map (λ s. s.name) before in
-    let p = some_then (λ sum. option_and_then (λ statement. statements_of (before ++ statement ∷ []) lines) (statement_of names sum)) (sum_of line) all e in
-    let q = some_then (λ statement. statements_of (before ++ statement ∷ []) lines) (statement_of names p.0) all p.2 in
+    let p = some_then (λ sum. option_and_then (λ statement. statements_of (before ++ statement ∷ []) trees) (statement_of names sum)) (sum_of tree) all e in
+    let q = some_then (λ statement. statements_of (before ++ statement ∷ []) trees) (statement_of names p.0) all p.2 in
     let last : IsSumAt (length before) q.0 = subst (λ n. IsSumAt n q.0) (length-map before (λ s. s.name)) (statement_of-sum names p.0 q.0 q.1) in
-    let rest = statements_of-sums (before ++ q.0 ∷ []) lines all (AreSums-push before q.0 sums last) q.2 in
+    let rest = statements_of-sums (before ++ q.0 ∷ []) trees all (AreSums-push before q.0 sums last) q.2 in
     (rest.0, omega (arith, rest.1, length-append before (q.0 ∷ [])))
 
 -- what a tree folds to, and an operator in it
@@ -226,12 +230,17 @@ script_of-IsChecked statements sums few = record {
   ordered = ordered statements sums;
 }
 
+few_then : (a b c : Bool) → (a && (b && c)) ≡ true → c ≡ true
+few_then true true c h = h
+few_then true false c h = cc
+few_then false b c h = cc
+
 -- each plain script is checked
-pub plain_script-IsChecked : (text : List ℕ) (s : Script) → plain_script text ≡ Some s → IsChecked s
-plain_script-IsChecked text s e =
-    let lines : List (List ℕ) = lines_of text in
-    let p = some_if (nat_le (length lines) MOST_LINES) (option_map script_of (statements_of [] lines)) s e in
-    let q = some_map script_of (statements_of [] lines) s p.1 in
-    let all = statements_of-sums [] lines q.0 AreSums-none q.1 in
-    let few : length q.0 ≤ 256 = grind (arith, nat_tests, p.0, all.1) in
+pub plain_script-IsChecked : (tree : raw.Script) (s : Script) → plain_script tree ≡ Some s → IsChecked s
+plain_script-IsChecked tree s e =
+    let p = some_if (has_few tree) (option_map script_of (statements_of [] tree.statements)) s e in
+    let q = some_map script_of (statements_of [] tree.statements) s p.1 in
+    let all = statements_of-sums [] tree.statements q.0 AreSums-none q.1 in
+    let within = few_then (nat_eq (length tree.rulesets) 0) (nat_lt 0 (length tree.statements)) (nat_le (length tree.statements) MOST_STATEMENTS) p.0 in
+    let few : length q.0 ≤ 256 = grind (arith, nat_tests, within, all.1) in
     subst IsChecked q.2 (script_of-IsChecked q.0 all.0 few)

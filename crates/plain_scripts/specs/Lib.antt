@@ -1,5 +1,5 @@
 pub mod Inputs
-pub mod Lines
+pub mod Sums
 pub mod Names
 pub mod Scripts
 pub mod Shown

@@ -1,11 +1,6 @@
--- Lines and sums that are given by reference.
-use Rattle.std.specs.Prelude.{ℕ, List, map}
-use denote.Ref.{Bor}
-use Rattle.plain_scripts.specs.declared.line.SumLine.{SumLine}
-use Rattle.plain_scripts.specs.Lines.{Sum}
+-- Sums that are given by reference.
+use Rattle.plain_scripts.specs.declared.sum.Sum as rust
+use Rattle.plain_scripts.specs.Sums.{Sum}
 
-abbrev pub shown : List (Bor (List ℕ)) → List (List ℕ)
-shown lines = map (λ line. line.now) lines
-
-abbrev pub shown_sum : SumLine → Sum
-shown_sum line = record { name = line.name.now; left = line.left.now; right = line.right.now }
+abbrev pub shown_sum : rust.Sum → Sum
+shown_sum sum = record { name = sum.name.now; left = sum.left.now; right = sum.right.now; sign = sum.sign }

@@ -1,17 +1,18 @@
-//! The script of the plain forms: sums of two data sets, one on each line.
+//! Plain scripts: sums of two data sets, one in each statement.
 //!
-//! It stands on `vtl_values` for structures, on `vtl_tokens` for the reserved words and on `checked_trees` for what a
-//! script stands for. `read_script` answers, for all bytes, exactly the script that its definition gives, or that there
-//! is none; each script that it gives is checked. `plain_structures` has the structures of its two inputs.
+//! It stands on `vtl_syntax` for the trees that scripts are read as, on `vtl_values` for structures, on `vtl_tokens` for
+//! the reserved words and on `checked_trees` for what a script stands for. `check_plain` answers exactly the checked
+//! script that its definition gives for a tree, or that there is none. `plain_structures` has the structures of its two
+//! inputs.
 #![tactic(auto)]
 
-pub mod line;
 pub mod name;
 pub mod script;
 pub mod statement;
 pub mod structures;
+pub mod sum;
 
-pub use script::read_script;
+pub use script::check_plain;
 pub use structures::plain_structures;
 
 #[cfg(test)]

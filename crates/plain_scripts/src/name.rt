@@ -1,34 +1,19 @@
 // The names of results.
-ghost use Rattle.std.specs.Prelude.{◌≡◌, true, false, MatchOption, chars};
+ghost use Rattle.std.specs.Prelude.{◌≡◌};
 ghost use Rattle.std.specs.Char.{is_ascii_alphanumeric};
 ghost use Rattle.std.specs.List.{list_all};
 ghost use Rattle.plain_scripts.specs.Names.{is_spelled, is_name};
 
 use vtl_tokens::Keyword;
+use vtl_values::Word;
 
 const MOST_NAME: usize = 32;
 
-/// The text of a name that a result may have.
-pub(crate) fn name_text(name: &[u8]) -> Option<&str>
-    ensures { MatchOption result (is_name name.now ≡ false) (λ text. (is_name name.now ≡ true) × (chars text.now ≡ name.now)) }
+/// Whether a result may have the name.
+pub(crate) fn is_name(name: &Word) -> bool
+    ensures { result ≡ is_name name.now }
 {
-    let text = spelled_text(name)?;
-    if Keyword::of(text).is_none() {
-        Some(text)
-    } else {
-        None
-    }
-}
-
-// The text of a name that is spelled as one.
-fn spelled_text(name: &[u8]) -> Option<&str>
-    ensures { MatchOption result (is_spelled name.now ≡ false) (λ text. (is_spelled name.now ≡ true) × (text.now ≡ name.now) × (chars text.now ≡ name.now)) }
-{
-    if is_spelled(name) {
-        str::from_utf8(name).ok()
-    } else {
-        None
-    }
+    is_spelled(name.as_str().as_bytes()) && Keyword::of(name.as_str()).is_none()
 }
 
 fn is_spelled(name: &[u8]) -> bool

@@ -1,53 +1,59 @@
 // Plain scripts.
-ghost use Rattle.std.specs.Prelude.{◌≡◌, ◌≤◌, [], length, IfOk};
+ghost use Rattle.std.specs.Prelude.{◌≡◌, [], IfOk};
 ghost use Rattle.std.specs.List.{range_with_len};
 ghost use Rattle.std.specs.Option.{option_map};
-ghost use Rattle.plain_scripts.specs.Scripts.{plain_script, statements_of};
-ghost use Rattle.plain_scripts.specs.Shown.{shown};
+ghost use Rattle.plain_scripts.specs.Inputs.{STRUCTURES};
+ghost use Rattle.plain_scripts.specs.Scripts.{has_few, plain_script, statements_of};
 
-use crate::line::{before_end, read_sum, split};
 use crate::statement::read_statement;
 use crate::structures::plain_structures;
+use crate::sum::sum_of;
 use checked_trees::{CheckedScript, CheckedStatement};
 use std::alloc::{AllocError, Global};
+use vtl_syntax::{Script, Statement};
+use vtl_values::Structures;
 
-const MOST_LINES: usize = 256;
+const MOST_STATEMENTS: usize = 256;
 
-/// The script that the bytes stand for. `None`: they are no plain script.
-pub fn read_script(alloc: Global, text: &[u8]) -> Result<Option<CheckedScript>, AllocError>
-    ensures { IfOk result (λ script. script ≡ plain_script text.now) }
+/// The checked script of a plain script. `None`: it is none.
+pub fn check_plain(alloc: Global, script: &Script) -> Result<Option<CheckedScript>, AllocError>
+    ensures { IfOk result (λ checked. checked ≡ plain_script script.now) }
 {
-    let text = before_end(text, b'\n').unwrap_or(text);
-    let lines = split(alloc, text, b'\n')?;
-    if lines.len() > MOST_LINES {
+    if !has_few(script) {
         return Ok(None);
     }
-    let Some(statements) = read_statements(alloc, lines.as_slice())? else {
+    let inputs = plain_structures(alloc)?;
+    let Some(statements) = read_statements(alloc, &inputs, script.statements.as_slice())? else {
         return Ok(None);
     };
     let order = numbers(alloc, statements.len() as u64)?;
-    let inputs = plain_structures(alloc)?;
     Ok(Some(CheckedScript::of(inputs, statements, order)))
 }
 
-// The statements of the lines, each read behind those before it.
+fn has_few(script: &Script) -> bool
+    ensures { result ≡ has_few script.now }
+{
+    let count = script.statements.len();
+    script.rulesets.len() == 0 && 0 < count && count <= MOST_STATEMENTS
+}
+
+// The statements of the trees, each read behind those before it.
 fn read_statements(
     alloc: Global,
-    lines: &[&[u8]],
+    inputs: &Structures,
+    trees: &[Statement],
 ) -> Result<Option<Vec<CheckedStatement>>, AllocError>
-    requires { length lines.now ≤ 256 }
-    ensures { IfOk result (λ statements. option_map (λ vec. vec.items) statements ≡ statements_of [] (shown lines.now)) }
+    requires { inputs.now ≡ STRUCTURES }
+    ensures { IfOk result (λ statements. option_map (λ vec. vec.items) statements ≡ statements_of [] trees.now) }
 {
-    let mut names: Vec<&[u8]> = Vec::new(alloc);
     let mut statements = Vec::new(alloc);
-    for line in lines {
-        let Some(sum) = read_sum(alloc, line)? else {
+    for tree in trees {
+        let Some(sum) = sum_of(tree) else {
             return Ok(None);
         };
-        let Some(statement) = read_statement(alloc, names.as_slice(), sum)? else {
+        let Some(statement) = read_statement(alloc, inputs, statements.as_slice(), sum)? else {
             return Ok(None);
         };
-        names.push(sum.name)?;
         statements.push(statement)?;
     }
     Ok(Some(statements))

@@ -1,5 +1,6 @@
 pub mod StageLemmas
 pub mod RoundLemmas
+pub mod ScriptLemmas
 pub mod JudgeLemmas
 pub mod EvalLemmas
 pub mod FormLemmas

@@ -24,6 +24,11 @@ abbrev pub Refuses : {A : Type 0} → Stop → Stage A → Type 0
 Refuses (Ended e) stage = stage ≡ Err (told_by e)
 Refuses Memory stage = Unit {0}
 
+-- an end of what was read: it is refused, or isn't built
+abbrev pub IsRefusal : Stop → Type 0
+IsRefusal (Ended e) = (2 < e.status) × (e.status < 5)
+IsRefusal Memory = Unit {0}
+
 -- a fault of the shelf at one of these names
 pub record Fault (names : List (List ℕ)) (old new : ShelfView) : Type 0 where
   pub rose : Rose old.faults new.faults

@@ -6,6 +6,7 @@ pub mod Output
 pub mod Reading
 pub mod Rounds
 pub mod Runs
+pub mod Scripts
 pub mod Stages
 pub mod Views
 pub mod Words

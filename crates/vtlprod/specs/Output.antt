@@ -7,12 +7,12 @@ use Rattle.plain_forms.specs.declared.block.Block.{Block}
 use Rattle.plain_forms.specs.Feeds.{plain_feed}
 use Rattle.plain_forms.specs.Forms.{STRUCTURES}
 use Rattle.plain_forms.specs.Revisions.{revision_of}
-use Rattle.plain_scripts.specs.Scripts.{plain_script}
 use Rattle.round_core.specs.Seen.{Seen}
 use Rattle.vtlprod.specs.Stages.{Answer, Stage, after, passed, answer}
 use Rattle.vtlprod.specs.Lines.{not_built}
 use Rattle.vtlprod.specs.Forms.{is_form}
 use Rattle.vtlprod.specs.Reading.{EvalBytes, bytes_of}
+use Rattle.vtlprod.specs.Scripts.{script_of}
 use Rattle.vtlprod.specs.Eval.{eval}
 use Rattle.vtlprod.specs.Runs.{IsRunOf}
 
@@ -20,24 +20,19 @@ use Rattle.vtlprod.specs.Runs.{IsRunOf}
 pub data Run : Type 0 where
   Eval : Script → List Revision → Run
 
--- what is read from a text, where it has the form
-abbrev pub built : {A : Type 0} → Option A → Stage A
-built None = Err not_built
-built (Some a) = Ok a
+-- the revisions of a plain feed, and nothing else is built
+abbrev pub told_feed : Option (List Block) → Stage (List Revision)
+told_feed None = Err not_built
+told_feed (Some blocks) = Ok (map revision_of blocks)
 
--- a plain script
-abbrev pub script_of : List ℕ → Stage Script
-script_of bytes = built (plain_script bytes)
-
--- the revisions of a plain feed
 abbrev pub revisions_of : List ℕ → Stage (List Revision)
-revisions_of bytes = after (built (plain_feed bytes)) (λ blocks. Ok (map revision_of blocks))
+revisions_of bytes = told_feed (plain_feed bytes)
 
--- the forms of the script, the structures and the feed, in this order
+-- the structures, the script and the feed, in this order
 abbrev pub forms_of : EvalBytes → Stage Run
 forms_of bytes =
-    after (script_of bytes.script) (λ script.
     after (passed (is_form STRUCTURES bytes.structures) not_built) (λ _.
+    after (script_of bytes.script) (λ script.
     after (revisions_of bytes.feed) (λ revisions.
     Ok (Eval script revisions))))
 

@@ -28,8 +28,8 @@ use std::thread::Threads;
 /// How a run of the program ended.
 #[derive(Drop)]
 pub struct Outcome {
-    /// 0 where all went well; 2 for a file that can't be read or is too long, 4 for what isn't built yet, 5 for a round
-    /// that failed, 6 for a write that failed, 7 for want of memory.
+    /// 0 where all went well; 2 for a file that can't be read or is too long, 3 for a script that is refused, 4 for what
+    /// isn't built yet, 5 for a round that failed, 6 for a write that failed, 7 for want of memory.
     pub status: u8,
     /// Where the run came to its end, the production that it ran on.
     pub production: Option<Production>,

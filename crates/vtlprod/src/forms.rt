@@ -1,7 +1,7 @@
 // The stages of the forms that are built.
-ghost use Rattle.std.specs.Prelude.{◌≡◌, map, IfOk, IfErr, Ok};
+ghost use Rattle.std.specs.Prelude.{◌≡◌, ◌≤◌, length, IfOk, IfErr, Ok};
 ghost use Rattle.plain_forms.specs.Forms.{STRUCTURES};
-ghost use Rattle.vtlprod.specs.Ends.{Gives, Refuses};
+ghost use Rattle.vtlprod.specs.Ends.{IsRefusal, Refuses};
 ghost use Rattle.vtlprod.specs.Forms.{is_form};
 ghost use Rattle.vtlprod.specs.Lines.{not_built};
 ghost use Rattle.vtlprod.specs.Output as output;
@@ -10,12 +10,12 @@ ghost use Rattle.vtlprod.specs.Runs.{IsFew};
 ghost use Rattle.vtlprod.specs.Stages.{passed};
 ghost use Rattle.vtlprod.specs.Views.{eval_bytes, run_of};
 
-use crate::reading::EvalBytes;
+use crate::reading::{EvalBytes, SCRIPT_LIMIT};
+use crate::script::checked_script;
 use crate::stop::Stop;
 use crate::words::not_built;
 use checked_trees::CheckedScript;
 use plain_forms::{PlainStop, is_structures, read_plain, revisions};
-use plain_scripts::read_script;
 use point_sets::Revision;
 use std::alloc::Global;
 
@@ -26,22 +26,10 @@ pub struct EvalInput {
     pub revisions: Vec<Revision>,
 }
 
-fn script_form(alloc: Global, bytes: &[u8]) -> Result<CheckedScript, Stop>
-    ensures go { IfOk result (λ script. output.script_of bytes.now ≡ Ok script) }
-    ensures end { IfErr result (λ stop. Refuses stop (output.script_of bytes.now)) }
-    ensures line { IfErr result (λ stop. Gives stop not_built) }
-{
-    match read_script(alloc, bytes) {
-        Ok(Some(script)) => Ok(script),
-        Ok(None) => Err(not_built(alloc)),
-        Err(_) => Err(Stop::Memory),
-    }
-}
-
 fn structures_form(alloc: Global, bytes: &[u8]) -> Result<(), Stop>
     ensures go { IfOk result (λ _. passed (is_form STRUCTURES bytes.now) not_built ≡ Ok tt) }
     ensures end { IfErr result (λ stop. Refuses stop (passed (is_form STRUCTURES bytes.now) not_built)) }
-    ensures line { IfErr result (λ stop. Gives stop not_built) }
+    ensures kind { IfErr result IsRefusal }
 {
     if is_structures(bytes) {
         Ok(())
@@ -54,7 +42,7 @@ fn feed_form(alloc: Global, bytes: &[u8]) -> Result<Vec<Revision>, Stop>
     ensures go { IfOk result (λ revisions. output.revisions_of bytes.now ≡ Ok revisions.items) }
     ensures few { IfOk result (λ revisions. IsFew revisions.items) }
     ensures end { IfErr result (λ stop. Refuses stop (output.revisions_of bytes.now)) }
-    ensures line { IfErr result (λ stop. Gives stop not_built) }
+    ensures kind { IfErr result IsRefusal }
 {
     match read_plain(alloc, bytes) {
         Ok(blocks) => Ok(revisions(alloc, blocks.as_slice())?),
@@ -63,15 +51,16 @@ fn feed_form(alloc: Global, bytes: &[u8]) -> Result<Vec<Revision>, Stop>
     }
 }
 
-/// The script and the revisions of the feed, where script, structures and feed have the forms that are built.
+/// The script and the revisions of the feed. The structures are looked at first, then the script and the feed.
 pub fn read_forms(alloc: Global, bytes: &EvalBytes) -> Result<EvalInput, Stop>
+    requires { length bytes.now.script.items ≤ SCRIPT_LIMIT }
     ensures go { IfOk result (λ input. forms_of (eval_bytes bytes.now) ≡ Ok (run_of input)) }
     ensures few { IfOk result (λ input. IsFew input.revisions.items) }
     ensures end { IfErr result (λ stop. Refuses stop (forms_of (eval_bytes bytes.now))) }
-    ensures line { IfErr result (λ stop. Gives stop not_built) }
+    ensures kind { IfErr result IsRefusal }
 {
-    let script = script_form(alloc, bytes.script.as_slice())?;
     structures_form(alloc, bytes.structures.as_slice())?;
+    let script = checked_script(alloc, bytes.script.as_slice())?;
     let revisions = feed_form(alloc, bytes.feed.as_slice())?;
     Ok(EvalInput { script, revisions })
 }

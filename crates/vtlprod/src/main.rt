@@ -10,6 +10,7 @@ pub mod forms;
 pub mod lines;
 pub mod reading;
 pub mod round;
+pub mod script;
 pub mod stop;
 pub mod words;
 
@@ -46,5 +47,7 @@ fn main(rt: HostRuntime) -> ExitCode {
     ExitCode::from(outcome.status)
 }
 
+#[cfg(test)]
+mod script_tests;
 #[cfg(test)]
 mod tests;

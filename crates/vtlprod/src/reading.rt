@@ -1,5 +1,5 @@
 // The stage of the files.
-ghost use Rattle.std.specs.Prelude.{◌≡◌, ◌≢◌, ◌≤◌, [], ◌∷◌, ◌++◌, codes, decimal, encode_utf8_all, IfOk, IfErr};
+ghost use Rattle.std.specs.Prelude.{◌≡◌, ◌≢◌, ◌≤◌, [], ◌∷◌, ◌++◌, length, codes, decimal, encode_utf8_all, IfOk, IfErr};
 ghost use Rattle.vtlprod.specs.Ends.{Gives, Stands};
 ghost use Rattle.vtlprod.specs.Lines.{line, unread, too_long};
 ghost use Rattle.vtlprod.specs.Reading.{file, files_of};
@@ -53,8 +53,9 @@ pub fn read_file<S: Shelf>(
     limit: u64,
 ) -> Result<Vec<u8>, Stop>
     requires { SCRIPT_LIMIT ≤ limit }
-    ensures { Stands as_bytes (name.now ∷ []) (S.view shelf.old) (S.view shelf.new) result
+    ensures stands { Stands as_bytes (name.now ∷ []) (S.view shelf.old) (S.view shelf.new) result
         (λ files. file files name.now limit) }
+    ensures within { IfOk result (λ bytes. length bytes.items ≤ limit) }
 {
     match shelf.read(alloc, name, limit) {
         Ok(bytes) => Ok(bytes),
@@ -78,8 +79,9 @@ pub fn read_files<S: Shelf>(
     shelf: &mut S,
     eval: &EvalFiles,
 ) -> Result<EvalBytes, Stop>
-    ensures { Stands eval_bytes (named (eval_names eval.now)) (S.view shelf.old) (S.view shelf.new) result
+    ensures stands { Stands eval_bytes (named (eval_names eval.now)) (S.view shelf.old) (S.view shelf.new) result
         (files_of (eval_names eval.now)) }
+    ensures within { IfOk result (λ bytes. length bytes.script.items ≤ SCRIPT_LIMIT) }
 {
     let script = read_file(alloc, shelf, &eval.script, SCRIPT_LIMIT)?;
     let structures = read_file(alloc, shelf, &eval.structures, STRUCTURES_LIMIT)?;

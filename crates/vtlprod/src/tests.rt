@@ -7,10 +7,10 @@ ghost use Rattle.round_journal.specs.Stands.{WorkStands, DoneStands};
 ghost use Rattle.round_core.specs.declared.limits.TheConstants.{ENTRY_LIMIT};
 
 use crate::call::run_vtlprod;
+use crate::script::checked_script;
 use data_model::steps::Steps;
 use outside::{MemoryShelf, MemorySink, OpenGate};
 use plain_forms::{read_plain, revisions};
-use plain_scripts::read_script;
 use point_sets::Revision;
 use round_core::{ClaimStop, Full, Given, Limits, Production, SubmitStop};
 use round_journal::Verdict;
@@ -111,15 +111,35 @@ fn writes_the_release_or_the_failed_line(rt: HostRuntime) -> Result<(), Fail> {
             "accepted 1\naccepted 2\nfailed prefix 2 statement Q line 2 column 8 range key x\n",
         ),
         (SCRIPT, "@C\n:action,Id,Me\nput,x,1\n", 4, "not built\n"),
+        (
+            "R<-A+B;Q\n<- R /* and */\n + B;",
+            "",
+            0,
+            "release 0 prefix 0\n[R]\nId,Me\n[Q]\nId,Me\n",
+        ),
         ("R <- A + Q;\nQ <- A + B;\n", FEED, 4, "not built\n"),
         ("R <- A - B;", FEED, 4, "not built\n"),
+        ("R <- A [filter Me > 1];", FEED, 4, "not built\n"),
+        ("J <- left_join(A as a, B as b);", FEED, 4, "not built\n"),
+        (
+            "R <- A + B; define datapoint ruleset D (variable Me) is Me > 0 end datapoint ruleset;",
+            FEED,
+            4,
+            "not built\n",
+        ),
+        ("", FEED, 4, "not built\n"),
+        ("R <- A + ;", "", 3, "script 1 10 Expected\n"),
+        ("R <- sqrt(A);", "", 3, "script 1 6 LeftOut sqrt\n"),
+        ("R <- A\n  + ;", "", 3, "script 2 5 Expected\n"),
+        ("R <- \"abc", "", 3, "script 1 6 OpenString\n"),
+        ("R <", "", 3, "script 1 3 Expected\n"),
     ] {
         let mut shelf = shelf(alloc, &eval_files(script, feed), Vec::new(alloc))?;
         let mut out = sink(alloc, Vec::new(alloc));
         let words = words(alloc, "eval s t f")?;
         let outcome = run_vtlprod(&rt, &words, &mut shelf, &mut out, &OpenGate);
         assert_eq!(rt; outcome.status, status);
-        assert_eq!(rt; outcome.production.is_some(), status != 4);
+        assert_eq!(rt; outcome.production.is_some(), status == 0 || status == 5);
         assert_eq!(rt; out.taken.as_slice(), text.as_bytes());
     }
     Ok(())
@@ -172,7 +192,10 @@ fn other_words_are_not_built_and_read_nothing(rt: HostRuntime) -> Result<(), Fai
 fn production(alloc: Global, script: &str, entries: u64) -> Result<Production, Fail>
     requires { entries ≤ ENTRY_LIMIT }
 {
-    let Some(script) = read_script(alloc, script.as_bytes())? else {
+    if script.len() > 1000 {
+        return Err(Fail::new("a long script"));
+    }
+    let Ok(script) = checked_script(alloc, script.as_bytes()) else {
         return Err(Fail::new("no plain script"));
     };
     let limits = Limits {
