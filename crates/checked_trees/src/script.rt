@@ -55,12 +55,14 @@ impl CheckedScript {
         }
     }
 
+    /// The structures of the inputs, by name and by number.
     pub fn inputs(&self) -> &Structures
         ensures { result.now ≡ self.now.inputs }
     {
         &self.inputs
     }
 
+    /// The statements, in the order of the text. The script is a checked one.
     pub fn statements(&self) -> &[CheckedStatement]
         ensures value { result.now ≡ self.now.statements }
         ensures checked { IsChecked self.now }

@@ -1,3 +1,11 @@
-pub mod Looks
+pub mod Compared
+pub mod EntryLemmas
+pub mod HoldingLemmas
 pub mod Notes
+pub mod OrderLemmas
+pub mod PartLemmas
+pub mod Plain
+pub mod PlanLemmas
 pub mod Rules
+pub mod Spans
+pub mod WalkLemmas

@@ -1,13 +1,18 @@
 -- What is held of an operand, and how it is walked (docs/language.md, "Data sets").
-use Rattle.std.specs.Prelude.{◌≡◌, ℕ, ◌<◌, List, [], ◌∷◌, All, Option, Some, None, length, slice_get, unwrap_or, refl}
+use Rattle.std.specs.Prelude.{◌≡◌, ℕ, ◌<◌, ◌&&◌, List, [], All, Bool, filter, Option, Some, None, length, slice_get, unwrap_or, refl}
 use Rattle.std.specs.Option.{IsSomeAnd}
+use Rattle.std.specs.Ordering.{is_lt, is_eq, eq_by_cmp}
 use Rattle.std.specs.Coded.{Coded, code_by, coded×}
-use Rattle.std.specs.FinMap.{empty, entries}
+use Rattle.std.specs.FinMap.{empty, entries, get}
 use Rattle.vtl_values.specs.declared.value.Value.{Value}
+use Rattle.vtl_values.specs.Order.{key_cmp}
 use Rattle.vtl_values.specs.declared.kind.Kind.{Kind}
 use Rattle.vtl_values.specs.declared.kind.Kind.TheVariants.{Integer, Number, Text, Truth}
 use Rattle.vtl_values.specs.declared.structure.Component.{Component}
+use Rattle.data_model.specs.Maps.{if_passes}
+use Rattle.ordered_tree.specs.Orders.{in_order}
 use Rattle.point_sets.specs.DataSets.{DataSet, data_set_coded}
+use Rattle.held_index.specs.Walks.{PointValues, part_key, order_cmp, place_cmp}
 use Rattle.held_index.specs.declared.want.Want.{Want}
 use Rattle.held_index.specs.contracts.want.Want as want
 
@@ -37,10 +42,28 @@ pub record FitsStructure (w : Want) (components : List Component) : Type 0 where
   pub order : All (λ o. o.component < length components) w.order
   pub sums : All (λ c. IsSomeAnd (slice_get components c) (λ k. IsNumeric k.kind)) w.sums
 
--- the entries of a part, in the order of the walk; where all points are one part, it has no components
-abbrev pub part_of : List Value → DataSet → List (List Value × List Value)
-part_of [] m = entries m
-part_of (v ∷ vs) m = []
+-- a part's list: the points of the part, by the order and then the key
+abbrev pub part_of : Want → List Value → DataSet → List PointValues
+part_of w part m = in_order (place_cmp w) (filter (λ p. eq_by_cmp key_cmp (part_key w.part p) part) (entries m))
+
+-- the list of the part that a point has, or would have
+abbrev pub its_part : Want → PointValues → DataSet → List PointValues
+its_part w at m = part_of w (part_key w.part at) m
+
+-- what comes strictly after a point in its part, and strictly before it
+abbrev pub after : Want → PointValues → DataSet → List PointValues
+after w at m = filter (λ p. is_lt (place_cmp w at p)) (its_part w at m)
+
+abbrev pub before : Want → PointValues → DataSet → List PointValues
+before w at m = filter (λ p. is_lt (place_cmp w p at)) (its_part w at m)
+
+-- whether a point has the part and the order of another one
+abbrev pub stands_with : Want → PointValues → PointValues → Bool
+stands_with w at p = eq_by_cmp key_cmp (part_key w.part p) (part_key w.part at) && is_eq (order_cmp w.order p at)
+
+-- what is held at a point's key, if it has the point's part and order
+abbrev pub found_at : Want → PointValues → DataSet → Option (List Value)
+found_at w at m = if_passes (λ rest. stands_with w at (at.0, rest)) (get m at.0)
 
 -- a look is one step, and one more where a point is handed out
 abbrev pub look_steps : {A : Type 0} → Option A → ℕ

@@ -1,3 +1,9 @@
 pub mod Drafts
 pub mod Holdings
+pub mod Places
 pub mod Rules
+pub mod SumLaws
+pub mod Sums
+pub mod WalkLaws
+pub mod WalkedPoints
+pub mod Walks

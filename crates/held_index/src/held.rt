@@ -1,18 +1,20 @@
 // Held operands.
-ghost use Rattle.std.specs.Prelude.{◌≡◌, ◌+◌, ◌≤◌, IfOk, map, drop, slice_get};
+ghost use Rattle.std.specs.Prelude.{◌≡◌, ◌+◌, ◌<◌, ◌≤◌, ◌^◌, IfOk, None, filter, length, slice_get, slice_index};
 ghost use Rattle.std.specs.Option.{option_copied, option_map};
+ghost use Rattle.std.specs.List.{last_or};
 ghost use Rattle.std.specs.FinMap as finmap;
-ghost use Rattle.vtl_values.specs.Order.{key_cmp};
 ghost use Rattle.data_model.specs.Deltas.{apply, BeginsAt};
-ghost use Rattle.point_sets.specs.DataSets.{entry_of, rest_of, HasKey, Ascend};
-ghost use Rattle.point_sets.specs.Places.{above};
-ghost use Rattle.held_index.specs.Holdings.{IsPlain, FitsStructure, part_of, look_steps};
+ghost use Rattle.point_sets.specs.DataSets.{entry_of, rest_of, HasKey};
+ghost use Rattle.held_index.specs.Holdings.{FitsStructure, part_of, after, before, found_at, look_steps};
+ghost use Rattle.held_index.specs.Sums.{sum_over};
+ghost use Rattle.held_index.specs.Walks.{point_values};
 
-use crate::want::Want;
+use crate::place::Place;
+use crate::walk::Walk;
+use crate::want::{SumOf, Want};
 use data_model::POINT_LIMIT;
 use data_model::steps::Steps;
-use point_sets::{Delta, Key, Point, PointSet};
-use sqlite_items::at as item_at;
+use point_sets::{Delta, Key, Point};
 use std::alloc::{AllocError, Global};
 use std::marker::Model;
 use std::sync::Arc;
@@ -20,123 +22,156 @@ use std::sync::ledger::Ledger;
 use vtl_values::Structure;
 
 /// An operand as an operator wants it. Contracts see what is wanted, and the content, the map from keys to the other
-/// values. It is walked in the order of its keys.
-#[derive(Debug, Drop)]
+/// values; the points are walked part by part, in each part by the order and then the key. The length of a descent
+/// isn't counted, steps are.
+#[derive(Drop)]
 pub struct Held {
-    want: Want,
-    points: PointSet,
+    walk: Walk,
 }
 
 impl Model for Held {
-    ghost use Rattle.held_index.specs.Holdings.{Holding, holding_coded, IsPlain};
+    ghost use Rattle.std.specs.Prelude.{◌≤◌, length};
+    ghost use Rattle.std.specs.FinMap.{from_entries};
+    ghost use Rattle.data_model.specs.declared.TheConstants.{POINT_LIMIT};
+    ghost use Rattle.held_index.specs.Holdings.{Holding, holding_coded};
 
     ghost Value = { Holding };
 
     ghost coded = { holding_coded };
 
-    ghost view = { λ held. record { want = held.want; content = held.points } };
+    ghost view = { λ held. record { want = held.walk.want; content = from_entries held.walk.points } };
 
-    ghost invariant = { λ held. IsPlain held.want };
+    ghost invariant = { λ held. length held.walk.points ≤ POINT_LIMIT };
 }
 
-/// What a held operand will have after a delta. Contracts see it as that data set.
-#[derive(Debug, Drop)]
+/// A held operand as it will be after a delta. Contracts see it as that.
+#[derive(Drop)]
 pub struct Patch {
-    points: PointSet,
+    walk: Walk,
 }
 
 impl Model for Patch {
-    ghost use Rattle.point_sets.specs.DataSets.{DataSet, data_set_coded};
+    ghost use Rattle.std.specs.Prelude.{◌≤◌, length};
+    ghost use Rattle.std.specs.FinMap.{from_entries};
+    ghost use Rattle.data_model.specs.declared.TheConstants.{POINT_LIMIT};
+    ghost use Rattle.held_index.specs.Holdings.{Holding, holding_coded};
 
-    ghost Value = { DataSet };
+    ghost Value = { Holding };
 
-    ghost coded = { data_set_coded };
+    ghost coded = { holding_coded };
 
-    ghost view = { λ patch. patch.points };
+    ghost view = { λ patch. record { want = patch.walk.want; content = from_entries patch.walk.points } };
+
+    ghost invariant = { λ patch. length patch.walk.points ≤ POINT_LIMIT };
 }
 
 impl Held {
     /// An operand without points, of this structure.
     pub fn empty(alloc: Global, want: &Want, _structure: &Structure) -> Result<Held, AllocError>
-        requires plain { IsPlain want.now }
-        requires fits { FitsStructure want.now _structure.now }
+        requires { FitsStructure want.now _structure.now }
         ensures { IfOk result (λ held. held ≡ record { want = want.now; content = finmap.empty }) }
     {
         Ok(Held {
-            want: want.copy(alloc)?,
-            points: PointSet::new(alloc),
+            walk: Walk::empty(alloc, want)?,
         })
     }
 
-    /// The point that has the key of the given one.
+    /// The point that has the key, the part and the order of the given one.
     pub fn get<L: Ledger>(&self, at: &Point, steps: &mut Steps<L>) -> Option<&Arc<Point>>
-        ensures value { option_map rest_of (option_copied result) ≡ finmap.get self.now.content at.now.key }
+        ensures value { option_map rest_of (option_copied result) ≡ found_at self.now.want (point_values at.now) self.now.content }
         ensures key { HasKey at.now.key (option_copied result) }
         ensures steps { steps.new ≡ steps.old + look_steps (option_copied result) }
     {
-        let found = self.points.get(&at.key);
+        let from = self.walk.count_up_to(Place::At(at), false);
+        let to = self.walk.count_up_to(Place::At(at), true);
+        let found = self.walk.nth_between(from, to, 0);
         count_look(found, steps);
         found
     }
 
     /// The first point of a part.
     pub fn first_in<L: Ledger>(&self, part: &Key, steps: &mut Steps<L>) -> Option<&Arc<Point>>
-        ensures found { option_map entry_of (option_copied result) ≡ slice_get (part_of part.now self.now.content) 0 }
+        ensures found { option_map entry_of (option_copied result) ≡ slice_get (part_of self.now.want part.now self.now.content) 0 }
         ensures steps { steps.new ≡ steps.old + look_steps (option_copied result) }
     {
-        let found = first_of(&self.points, part);
-        count_look(found, steps);
-        found
+        self.nth_in(part, 0, steps)
     }
 
-    /// The first point strictly after the given one, whether or not that is held.
+    /// The first point strictly after the given one in its part, whether or not that is held.
     pub fn next<L: Ledger>(&self, at: &Point, steps: &mut Steps<L>) -> Option<&Arc<Point>>
-        ensures found { option_map entry_of (option_copied result) ≡ slice_get (above key_cmp at.now.key (finmap.entries self.now.content)) 0 }
+        ensures found { option_map entry_of (option_copied result) ≡ slice_get (after self.now.want (point_values at.now) self.now.content) 0 }
         ensures steps { steps.new ≡ steps.old + look_steps (option_copied result) }
     {
-        let points = self.points.points();
-        let found = item_at(points, place_above(points, &at.key));
+        let from = self.walk.count_up_to(Place::At(at), true);
+        let to = self.walk.count_up_to(Place::PartOf(at), true);
+        let found = self.walk.nth_between(from, to, 0);
         count_look(found, steps);
         found
     }
 
-    /// What the operand will have after a delta. The operand stays as it is. The points and the changes are gone
-    /// through once.
+    /// The last point strictly before the given one in its part, whether or not that is held.
+    pub fn prev<L: Ledger>(&self, at: &Point, steps: &mut Steps<L>) -> Option<&Arc<Point>>
+        ensures found { option_map entry_of (option_copied result) ≡ last_or None (before self.now.want (point_values at.now) self.now.content) }
+        ensures steps { steps.new ≡ steps.old + look_steps (option_copied result) }
+    {
+        let from = self.walk.count_up_to(Place::PartOf(at), false);
+        let to = self.walk.count_up_to(Place::At(at), false);
+        let found = self.walk.last_between(from, to);
+        count_look(found, steps);
+        found
+    }
+
+    /// The point of a part before which n others of it stand.
+    pub fn nth_in<L: Ledger>(&self, part: &Key, n: u64, steps: &mut Steps<L>) -> Option<&Arc<Point>>
+        ensures found { option_map entry_of (option_copied result) ≡ slice_get (part_of self.now.want part.now self.now.content) n }
+        ensures steps { steps.new ≡ steps.old + look_steps (option_copied result) }
+    {
+        let (from, to) = self.walk.span_of(part);
+        let found = self.walk.nth_between(from, to, n);
+        count_look(found, steps);
+        found
+    }
+
+    /// How many points a part has.
+    pub fn count_in<L: Ledger>(&self, part: &Key, steps: &mut Steps<L>) -> u64
+        ensures count { result ≡ length (part_of self.now.want part.now self.now.content) }
+        ensures steps { steps.new ≡ steps.old + 1 }
+    {
+        steps.tick();
+        let (from, to) = self.walk.span_of(part);
+        to - from
+    }
+
+    /// The exact sum of a summed component over a part, of the values that aren't null, and how many these are.
+    pub fn sum_in<L: Ledger>(&self, part: &Key, which: u64, steps: &mut Steps<L>) -> SumOf
+        requires { which < length self.now.want.sums }
+        ensures sum { result ≡ sum_over (slice_index self.now.want.sums which) (part_of self.now.want part.now self.now.content) }
+        ensures steps { steps.new ≡ steps.old + 1 }
+    {
+        steps.tick();
+        let (from, to) = self.walk.span_of(part);
+        self.walk.sum_between(which, from, to)
+    }
+
+    /// The operand as it will be after a delta. This one stays as it is, and they share what doesn't change.
     pub fn plan(&self, delta: &Delta) -> Result<Patch, AllocError>
         requires begins { BeginsAt delta.now self.now.content }
         requires few { finmap.len (apply delta.now self.now.content) ≤ POINT_LIMIT }
-        ensures { IfOk result (λ patch. patch ≡ apply delta.now self.now.content) }
+        ensures { IfOk result (λ patch. patch ≡ record self.now { content = apply delta.now self.now.content }) }
     {
-        let mut points = self.points.copy()?;
-        points.apply(delta)?;
-        Ok(Patch { points })
+        let mut walk = self.walk.copy()?;
+        for change in delta.changes() {
+            walk = walk.changed(change)?;
+        }
+        Ok(Patch { walk })
     }
 
-    /// Puts what was planned in place. It takes no memory.
+    /// Puts what was planned in place, with the want that it was planned for. It takes no memory.
     pub fn apply(&mut self, patch: Patch)
-        ensures { self.new ≡ record self.old { content = patch } }
+        ensures { self.new ≡ patch }
     {
-        let Patch { points } = patch;
-        self.points = points;
-    }
-}
-
-/// How many points have keys up to this one, by halving.
-fn place_above(points: &[Arc<Point>], key: &Key) -> usize
-    requires { Ascend points.now }
-    ensures { map entry_of (drop result points.now) ≡ above key_cmp key.now (map entry_of points.now) }
-{
-    points.partition_point(|point| point.key.cmp(key).is_le())
-}
-
-/// The first point of a part; all points are one part, which has no components.
-fn first_of<'a>(points: &'a PointSet, part: &Key) -> Option<&'a Arc<Point>>
-    ensures { option_map entry_of (option_copied result) ≡ slice_get (part_of part.now points.now) 0 }
-{
-    if part.values().is_empty() {
-        points.nth(0)
-    } else {
-        None
+        let Patch { walk } = patch;
+        self.walk = walk;
     }
 }
 

@@ -8,9 +8,13 @@
 #![tactic(auto)]
 
 pub mod draft;
+mod entry;
 pub mod held;
+mod place;
 pub mod rule;
 pub mod stop;
+mod sums;
+mod walk;
 pub mod want;
 
 pub use draft::Draft;
@@ -18,6 +22,3 @@ pub use held::{Held, Patch};
 pub use rule::DeltaRule;
 pub use stop::Stop;
 pub use want::{OrderItem, SumOf, Want};
-
-#[cfg(test)]
-mod tests;

@@ -12,6 +12,6 @@ pub record SumSoFar (a b set : DataSet) (done : List (List Value)) : Type 0 wher
   pub in_range : (k : List Value) → is_listed key_cmp done k ≡ true → is_out_of_range (sum_at a b k) ≡ false
   pub values : (k : List Value) → get set k ≡ cond (is_listed key_cmp done k) (evaluated (sum_at a b k)) None
 
--- values, and behind them others that may be there
+-- values, and after them others that may be there
 abbrev pub followed_by : List Value → Option (List Value) → Option (List Value)
 followed_by xs more = option_map (λ ys. xs ++ ys) more

@@ -156,7 +156,7 @@ module _ (a b : DataSet) where
   pub sum-all-taken : (set : DataSet) (es : List (List Value × List Value)) (i : ℕ) → es ≡ entries a → length es ≤ i → SumSoFar a b set (map (λ e. e.0) (take i es)) → sum a b ≡ settled None (len set) set
   sum-all-taken set es i same all h = sum-all set (subst (λ fs. SumSoFar a b set (map (λ e. e.0) fs)) (take_all es i all ∙ same) h)
 
-  -- at the key behind those done the evaluation is out of range
+  -- at the key after those done the evaluation is out of range
   range_one : (set : DataSet) (i : ℕ) (d : List Value × List Value) → i < length (entries a) → is_out_of_range (sum_at a b (get_or (entries a) i d).0) ≡ true
       → SumSoFar a b set (map (λ e. e.0) (take i (entries a))) → sum a b ≡ Range (get_or (entries a) i d).0
   range_one set i d l out h =

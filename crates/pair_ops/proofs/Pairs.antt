@@ -5,7 +5,7 @@ use Rattle.std.specs.Ordering.{eq_by_cmp}
 use Rattle.std.proofs.lemmas.List.{take_more, take_all, map-append, length-map}
 use Rattle.std.proofs.lemmas.List.Folds.{list_any-append}
 use Rattle.std.proofs.Math.ListN.{get_or-map}
-use Rattle.std.specs.FinMap.{get, keys, len, entries}
+use Rattle.std.specs.FinMap.{get, keys, len, entries, empty}
 use Rattle.vtl_values.specs.declared.value.Value.{Value}
 use Rattle.vtl_values.specs.declared.structure.Component.{Component}
 use Rattle.vtl_values.specs.Order.{key_cmp}
@@ -29,13 +29,14 @@ use Rattle.point_sets.specs.DataSets.{DataSet}
 use Rattle.point_sets.specs.Changes.{Changes, values_eq, values_of, change_entry, AreChanges}
 use Rattle.point_sets.proofs.Changes.{values_eq-IsEqualityTest}
 use Rattle.held_index.specs.Drafts.{SetDraft}
-use Rattle.held_index.specs.Holdings.{Holding, operand}
+use Rattle.held_index.specs.Holdings.{Holding, IsPlain, operand}
 use Rattle.held_index.specs.Rules.{SetOutcome, answer_of, after_news, AreAsked, IsRightAnswer}
 use Rattle.held_index.specs.declared.stop.Stop.{Stop}
 use Rattle.held_index.proofs.Rules.{IsRightAnswer-finished}
 use Rattle.pair_ops.specs.Evaluations.{seen_from}
 use Rattle.pair_ops.specs.Noted.{noted_change, IsNoted}
-use Rattle.pair_ops.specs.Rules.{an_operator, both}
+use Rattle.held_index.specs.declared.want.Want.{Want}
+use Rattle.pair_ops.specs.Rules.{an_operator, both, whole}
 use Rattle.pair_ops.specs.declared.notes.Side.{Side}
 use Rattle.pair_ops.specs.declared.notes.Side.TheVariants.{Left, Right}
 use Rattle.pair_ops.proofs.Found.{change_at}
@@ -115,12 +116,16 @@ right_sum d e a b x before n h was count =
 abbrev content_at : ℕ → List Holding → DataSet
 content_at i hs = operand i (map (λ h. h.content) hs)
 
+-- the want at a place
+abbrev want_at : ℕ → List Holding → Want
+want_at i hs = (get_or hs i (record { want = whole 0; content = empty })).want
+
 module _ (d e : Changes) (h g : Holding) (before : ℕ) (n : SetDraft) where
   -- the changes of both operands are noted, where the news begin at them
   abbrev pub BothNoted : DataSet → DataSet → Type 0
   BothNoted a b = BeginsAt d a → BeginsAt e b → IsNoted Left d e a b (keys d ++ keys e) n
 
-  asked_right : BothNoted h.content g.content → (op : CheckedOp) (operands : List (List Component)) (structure : List Component) (xs : List DataSet) (x : DataSet)
+  asked_right : (IsPlain h.want → IsPlain g.want → BothNoted h.content g.content) → (op : CheckedOp) (operands : List (List Component)) (structure : List Component) (xs : List DataSet) (x : DataSet)
       → AreAsked (AreOperands operands) (meaning_of (an_operator op operands structure)) both (h ∷ g ∷ []) (d ∷ e ∷ []) before xs x → IsRight (meaning_of (an_operator op operands structure) (after_news (d ∷ e ∷ []) xs)) x (finished before n)
   asked_right noted op operands structure [] x asked = absurd asked.begins
   asked_right noted op operands structure (a ∷ []) x asked = absurd asked.begins.1
@@ -128,10 +133,12 @@ module _ (d e : Changes) (h g : Holding) (before : ℕ) (n : SetDraft) where
   asked_right noted (PairOp Sum) operands structure (a ∷ b ∷ []) x asked =
       let first : h.content ≡ a = sym (ap (content_at 0) asked.held_is) in
       let second : g.content ≡ b = sym (ap (content_at 1) asked.held_is) in
-      let noted_both : BothNoted a b = subst (λ (t : DataSet). BothNoted a t) second (subst (λ (t : DataSet). BothNoted t g.content) first noted) in
+      let own : IsPlain h.want = subst IsPlain (ap (want_at 0) asked.held_is) (record { one_part = refl; by_key = refl }) in
+      let other : IsPlain g.want = subst IsPlain (ap (want_at 1) asked.held_is) (record { one_part = refl; by_key = refl }) in
+      let noted_both : BothNoted a b = subst (λ (t : DataSet). BothNoted a t) second (subst (λ (t : DataSet). BothNoted t g.content) first (noted own other)) in
       right_sum d e a b x before n (noted_both asked.begins.0 asked.begins.1.0) asked.result_is asked.count
 
-  pub right_answer : (o : Operator) (answer : Result Changes Stop) → IfSome (answer_of answer) (λ a. a ≡ finished before n) → BothNoted h.content g.content → IsRightAnswer (AreOperands o.operands) (meaning_of o) both (h ∷ g ∷ []) (d ∷ e ∷ []) before answer
+  pub right_answer : (o : Operator) (answer : Result Changes Stop) → IfSome (answer_of answer) (λ a. a ≡ finished before n) → (IsPlain h.want → IsPlain g.want → BothNoted h.content g.content) → IsRightAnswer (AreOperands o.operands) (meaning_of o) both (h ∷ g ∷ []) (d ∷ e ∷ []) before answer
   right_answer o answer ends noted = IsRightAnswer-finished (AreOperands o.operands) (meaning_of o) both (h ∷ g ∷ []) (d ∷ e ∷ []) before answer n ends (asked_right noted o.op o.operands o.structure)
 
 pub two_in : {X : Type 0} (xs : List X) (p q : X) → length xs ≡ 2 → p ≡ get_or xs 0 p → q ≡ get_or xs 1 q → p ∷ q ∷ [] ≡ xs

@@ -1,4 +1,3 @@
 pub mod Rules
 pub mod Evaluations
 pub mod Noted
-pub mod Examples

@@ -56,7 +56,7 @@ pub fn sum_at(
         return Ok(Evaluation::OutOfRange);
     };
     let point = Point {
-        key: key.copy(alloc)?,
+        key: key.copy()?,
         rest: Items::from_vec(rest),
     };
     Ok(Evaluation::Present(Arc::new(alloc, point)?))

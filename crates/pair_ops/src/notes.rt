@@ -8,6 +8,7 @@ ghost use Rattle.data_model.specs.Drafts.{note_key};
 ghost use Rattle.operator_meaning.specs.Sums.{is_out_of_range, evaluated};
 ghost use Rattle.point_sets.specs.DataSets.{DataSet, HasKey, key_of};
 ghost use Rattle.point_sets.specs.Changes.{values_eq, values_of, IsChange};
+ghost use Rattle.held_index.specs.Holdings.{IsPlain};
 ghost use Rattle.pair_ops.specs.Evaluations.{evaluation_of, point_in, seen_from};
 ghost use Rattle.pair_ops.specs.Noted.{noted_change, IsNoted};
 
@@ -36,7 +37,7 @@ pub fn note_changes<L: Ledger>(
     draft: &mut Draft,
     steps: &mut Steps<L>,
 ) -> Result<(), AllocError>
-    ensures { OnOk result ((a : DataSet) (ks : List (List Value)) → BeginsAt own.now a → IsNoted side own.now news.now a other.now.content ks draft.old → IsNoted side own.now news.now a other.now.content (ks ++ finmap.keys own.now) draft.new) }
+    ensures { OnOk result (IsPlain other.now.want → (a : DataSet) (ks : List (List Value)) → BeginsAt own.now a → IsNoted side own.now news.now a other.now.content ks draft.old → IsNoted side own.now news.now a other.now.content (ks ++ finmap.keys own.now) draft.new) }
 {
     for change in own.changes() {
         note_change(alloc, side, change, other, news, draft, steps)?;
@@ -54,13 +55,25 @@ fn note_change<L: Ledger>(
     steps: &mut Steps<L>,
 ) -> Result<(), AllocError>
     requires { IsChange change.now }
-    ensures { OnOk result (draft.new ≡ noted_change side change.now news.now other.now.content draft.old) }
+    ensures { OnOk result (IsPlain other.now.want → draft.new ≡ noted_change side change.now news.now other.now.content draft.old) }
 {
-    let before = other.get(point_of(change), steps);
+    let before = partner(other, change, steps);
     let after = point_after(news, &change.key, before);
     let old = evaluate(alloc, side, &change.key, change.old.as_ref(), before)?;
     let new = evaluate(alloc, side, &change.key, change.new.as_ref(), after)?;
-    note(alloc, &change.key, old, new, draft)
+    note(&change.key, old, new, draft)
+}
+
+/// What the other operand has at the key of a change.
+fn partner<'a, L: Ledger>(
+    other: &'a Held,
+    change: &Change,
+    steps: &mut Steps<L>,
+) -> Option<&'a Arc<Point>>
+    requires { IsChange change.now }
+    ensures { IsPlain other.now.want → values_of (option_copied result) ≡ finmap.get other.now.content change.now.key }
+{
+    other.get(point_of(change), steps)
 }
 
 /// A point at the key of a change.
@@ -107,22 +120,16 @@ fn evaluate(
 }
 
 /// Notes what was made at a key, and what is.
-fn note(
-    alloc: Global,
-    key: &Key,
-    old: Evaluation,
-    new: Evaluation,
-    draft: &mut Draft,
-) -> Result<(), AllocError>
+fn note(key: &Key, old: Evaluation, new: Evaluation, draft: &mut Draft) -> Result<(), AllocError>
     requires old { HasKey key.now (point_in old) }
     requires new { HasKey key.now (point_in new) }
     ensures { OnOk result (draft.new ≡ note_key values_eq key.now (is_out_of_range (evaluation_of new)) (evaluated (evaluation_of old)) (evaluated (evaluation_of new)) draft.old) }
 {
     if new.is_out_of_range() {
-        return draft.note_beyond(alloc, key);
+        return draft.note_beyond(key);
     }
     draft.note(Change {
-        key: key.copy(alloc)?,
+        key: key.copy()?,
         old: old.into_point(),
         new: new.into_point(),
     })

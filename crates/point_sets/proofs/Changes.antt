@@ -4,24 +4,25 @@ use Rattle.std.specs.Option.{option_eq, IfSome}
 use Rattle.std.specs.List.{All, AllByRecursion}
 use Rattle.std.proofs.lemmas.List.{take_more, map-append}
 use Rattle.std.proofs.lemmas.List.Elements.{All-append, All-cons}
+use Rattle.std.proofs.Math.ListN.{length-map}
 use Rattle.std.specs.Arc.{arc_value}
 use Rattle.std.specs.Cmp.{tied_itself}
 use Rattle.std.specs.Ordering.{is_eq}
 use Rattle.std.specs.declared.sync.Arc.{Arc}
 use Rattle.std.specs.declared.alloc.Global.{Global}
-use Rattle.std.specs.FinMap.{entries, from_entries, get-from_entries, get-entries, is_sorted, same_map}
+use Rattle.std.specs.FinMap.{entries, empty, len, empty_of_len, len-entries, len-empty, from_entries, get-from_entries, get-entries, is_sorted, same_map}
 use Rattle.vtl_values.specs.Order.{key_cmp}
 use Rattle.vtl_values.specs.declared.value.Value.{Value}
 use Rattle.vtl_values.proofs.Values.{key_cmp-IsTotalOrder, key_cmp-IsAntisymmetric}
 use Rattle.data_model.specs.Deltas.{Pair, IsEqualityTest, BeginsAt, Differs, Leads, apply, composed}
-use Rattle.data_model.proofs.DeltaLemmas.{contradicted, option_eq-decides, Leads-apply, Leads-composed}
+use Rattle.data_model.proofs.DeltaLemmas.{contradicted, option_eq-decides, Leads-apply, Leads-composed, Leads-empty}
 use Rattle.data_model.proofs.EntryLemmas.{entries-from_entries, IfSome-find}
 use Rattle.data_model.proofs.MapLemmas.{equal}
 use Rattle.point_sets.specs.declared.point.Point.{Point}
 use Rattle.point_sets.specs.declared.delta.Change.{Change}
-use Rattle.point_sets.specs.DataSets.{DataSet, HasKey, Ascend, entry_of, of_points}
+use Rattle.point_sets.specs.DataSets.{DataSet, HasKey}
 use Rattle.point_sets.specs.Changes.{Changes, values_eq, values_of, change_entry, of_changes, joined, IsChange, AreChanges, IsSamePoint}
-use Rattle.point_sets.proofs.Edited.{edited, replaced, is_sorted-edited, from_entries-replaced, from_entries-joined}
+use Rattle.point_sets.proofs.Edited.{edited, is_sorted-edited, from_entries-joined}
 
 pub values_eq-IsEqualityTest : IsEqualityTest values_eq
 values_eq-IsEqualityTest x y = (λ e. key_cmp-IsAntisymmetric x y (equal (key_cmp x y) e), λ e. subst (λ (t : List Value). values_eq x t ≡ true) e (ap is_eq (tied_itself key_cmp-IsTotalOrder x)))
@@ -84,13 +85,6 @@ pushed_more cs i c d before all lt at same h =
 
 -- ---- what is made of changes
 
-module _ (cs : List Change) (ps vs : List (Arc Point Global)) (e : map entry_of vs ≡ edited key_cmp replaced (map change_entry cs) (map entry_of ps)) (h : AreChanges cs) where
-  pub ascend_applied : Ascend ps → Ascend vs
-  ascend_applied s = subst (λ (es : List (List Value × List Value)). T (is_sorted key_cmp es)) (sym e) (is_sorted-edited key_cmp-IsTotalOrder key_cmp-IsAntisymmetric replaced (map change_entry cs) (map entry_of ps) h.ascend s)
-
-  pub map_applied : of_points vs ≡ apply (of_changes cs) (of_points ps)
-  map_applied = ap (λ (es : List (List Value × List Value)). let m : DataSet = from_entries es in m) e ∙ from_entries-replaced key_cmp-IsTotalOrder key_cmp-IsAntisymmetric (map change_entry cs) (map entry_of ps) h.ascend
-
 module _ (cs ds all : List Change) (e : map change_entry all ≡ edited key_cmp (joined values_eq) (map change_entry cs) (map change_entry ds)) (h : AreChanges cs) where
   pub are_changes_composed : AreChanges ds → All IsChange all → AreChanges all
   are_changes_composed t each = record {
@@ -122,3 +116,13 @@ Differs-of_changes cs h q = subst (λ (c : Option (Pair (List Value))). IfSome c
 -- a delta leads from where it begins to where it is applied
 pub leads_applied : (d : Changes) (m n : DataSet) → Differs d → n ≡ apply d m → BeginsAt d m → Leads d m n
 leads_applied d m n h e b = subst (λ (t : DataSet). Leads d m t) (sym e) (Leads-apply key_cmp-IsTotalOrder key_cmp-IsAntisymmetric d m b h)
+
+-- no changes are the empty delta, which leads nowhere
+pub none_from_length : (cs : List Change) (d : Changes) → map change_entry cs ≡ entries d → length cs ≡ 0 → d ≡ empty
+none_from_length cs d e n = empty_of_len d (len-entries d ∙ ap length (sym e) ∙ length-map cs change_entry ∙ n)
+
+pub length_from_none : (cs : List Change) (d : Changes) → map change_entry cs ≡ entries d → d ≡ empty → length cs ≡ 0
+length_from_none cs d e none = sym (length-map cs change_entry) ∙ ap length e ∙ sym (len-entries d) ∙ ap (λ (t : Changes). len t) none ∙ len-empty key_cmp (Pair (List Value))
+
+pub leads_nowhere : (d : Changes) (m : DataSet) → d ≡ empty → Leads d m m
+leads_nowhere d m none = subst (λ (t : Changes). Leads t m m) (sym none) (Leads-empty key_cmp-IsTotalOrder key_cmp-IsAntisymmetric m)

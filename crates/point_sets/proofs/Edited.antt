@@ -8,8 +8,8 @@ use Rattle.std.specs.Ordering.{is_lt, is_eq, eq_by_cmp, ordering_reverse}
 use Rattle.std.specs.Cmp.{IsTotalOrder}
 use Rattle.std.specs.FinMap.{IsAntisymmetric, find, is_sorted, from_entries, get-from_entries, same_map}
 use Rattle.std.specs.FinMap.Entries.{below_all, where_key, is_sorted-where_key, find-where_key}
-use Rattle.data_model.specs.Deltas.{Pair, apply, after, composed, composed_change}
-use Rattle.data_model.proofs.DeltaLemmas.{get-apply, get-composed}
+use Rattle.data_model.specs.Deltas.{Pair, composed, composed_change}
+use Rattle.data_model.proofs.DeltaLemmas.{get-composed}
 use Rattle.data_model.proofs.EntryLemmas.{find-++, find-later, find-below_all}
 use Rattle.point_sets.specs.Places.{below, above}
 use Rattle.point_sets.specs.Changes.{entry_at, joined}
@@ -29,10 +29,6 @@ edit f (Some x) y = f x y
 abbrev pub edited : {K X Y : Type 0} → (K → K → Ordering) → (X → Option Y → Option Y) → List (K × X) → List (K × Y) → List (K × Y)
 edited R f [] ys = ys
 edited R f (x ∷ xs) ys = below R x.0 ys ++ (entry_at x.0 (f x.1 (find R x.0 ys)) ++ edited R f xs (above R x.0 ys))
-
--- the new value of a change
-abbrev pub replaced : {X : Type 0} → Pair X → Option X → Option X
-replaced c x = c.1
 
 module _ {K Y : Type 0} (R : K → K → Ordering) where
   below_all-++ : (k : K) (es fs : List (K × Y)) → T (below_all R k es) → T (below_all R k fs) → T (below_all R k (es ++ fs))
@@ -172,21 +168,11 @@ module _ {K X Y : Type 0} {R : K → K → Ordering} (o : IsTotalOrder R) (same 
 
 -- ---- maps and deltas
 
-edit-replaced : {X : Type 0} (c : Option (Pair X)) (x : Option X) → edit replaced c x ≡ after c x
-edit-replaced None x = refl
-edit-replaced (Some c) x = refl
-
 edit-joined : {X : Type 0} (same : X → X → Bool) (c e : Option (Pair X)) → edit (joined same) c e ≡ composed_change same c e
 edit-joined same None e = refl
 edit-joined same (Some c) e = refl
 
 module _ {K X : Type 0} {R : K → K → Ordering} (o : IsTotalOrder R) (exact : IsAntisymmetric R) where
-  -- the map of points edited by changes is that after the delta
-  pub from_entries-replaced : (cs : List (K × Pair X)) (es : List (K × X)) → T (is_sorted R cs) → from_entries {R = R} (edited R replaced cs es) ≡ apply (from_entries {R = R} cs) (from_entries {R = R} es)
-  from_entries-replaced cs es s = same_map o exact _ _ (λ q.
-      get-from_entries o (edited R replaced cs es) q ∙ find-edited o exact replaced q cs es s ∙ edit-replaced (find R q cs) (find R q es)
-      ∙ sym (get-apply o exact (from_entries {R = R} cs) (from_entries {R = R} es) q ∙ (λ i. after (get-from_entries o cs q i) (get-from_entries o es q i))))
-
   -- the delta of changes edited by those before is that of both
   pub from_entries-joined : (same : X → X → Bool) (cs es : List (K × Pair X)) → T (is_sorted R cs) → from_entries {R = R} (edited R (joined same) cs es) ≡ composed same (from_entries {R = R} cs) (from_entries {R = R} es)
   from_entries-joined same cs es s = same_map o exact _ _ (λ q.

@@ -1,7 +1,10 @@
+pub mod Applied
 pub mod Changes
 pub mod Counts
 pub mod Edited
 pub mod Keys
+pub mod NotedLemmas
 pub mod Ordered
 pub mod Passes
 pub mod Points
+pub mod Seeks

@@ -1,15 +1,16 @@
 -- Lists whose entries ascend: what is found in them, and where an entry goes.
-use Rattle.std.proofs.Common.{◌≡◌, ℕ, ◌<◌, ◌≤◌, zero, suc, List, [], ◌∷◌, map, Some, None, Bool, true, false, T, ◌&&◌, sym, ◌∙◌, ap, refl, subst, arith, length, set, get_or, inl, inr}
-use Rattle.std.proofs.lemmas.Bool.{cases_lt}
+use Rattle.std.proofs.Common.{◌≡◌, ℕ, ◌<◌, ◌≤◌, zero, suc, List, [], ◌∷◌, map, Some, None, Bool, true, false, cond, T, ◌&&◌, sym, ◌∙◌, ap, refl, subst, arith, length, set, get_or, inl, inr}
+use Rattle.std.proofs.lemmas.Bool.{cases_lt, cases_Bool}
 use Rattle.std.proofs.lemmas.Option.{slice_get-get_or}
-use Rattle.std.specs.List.{slice_get, insert as list_insert}
+use Rattle.std.specs.List.{slice_get, insert as list_insert, remove as list_remove}
 use Rattle.std.specs.List.Sorted.{IsPartitionPoint, IsNonDecreasingBy}
 use Rattle.std.specs.declared.cmp.Ordering.{Ordering}
 use Rattle.std.specs.declared.cmp.Ordering.TheVariants.{Less, Equal, Greater}
-use Rattle.std.specs.Ordering.{is_lt, ordering_reverse, ordering_index}
+use Rattle.std.specs.Ordering.{is_lt, is_eq, eq_by_cmp, ordering_reverse, ordering_index}
 use Rattle.std.specs.Cmp.{IsTotalOrder, tied_itself}
 use Rattle.std.specs.FinMap.{IsAntisymmetric, find, put, is_sorted}
 use Rattle.std.specs.FinMap.Entries.{below_all}
+use Rattle.data_model.proofs.EntryLemmas.{find-below_all}
 
 pub first : (a b : Bool) → T (a && b) → T a
 first true b p = tt
@@ -23,6 +24,11 @@ pub less : (r : Ordering) → T (is_lt r) → r ≡ Less
 less Less h = refl
 less Equal h = absurd h
 less Greater h = absurd h
+
+tied : (r : Ordering) → is_eq r ≡ true → r ≡ Equal
+tied Less e = cc
+tied Equal e = refl
+tied Greater e = cc
 
 pub both : (a b : Bool) → T a → T b → T (a && b)
 both true b p q = q
@@ -87,6 +93,39 @@ module _ {K X P : Type 0} {R : K → K → Ordering} (o : IsTotalOrder R) (same 
   put_gap (q ∷ ps) (suc i) p l h =
       let here : R (f p).0 (f q).0 ≡ Greater = turned (f q).0 (f p).0 Less (h.0 0 q (omega arith) (omega arith)) in
       rw here (ap (λ (t : List (K × X)). f q ∷ t) (put_gap ps i p (omega arith) ((λ j d a b. h.0 (suc j) d (omega arith) (omega arith)), λ j d a b. h.1 (suc j) d (omega arith) (omega arith))))
+
+  below_all-removed : (x : K) (ps : List P) (i : ℕ) → T (below_all R x (map f ps)) → T (below_all R x (map f (list_remove ps i)))
+  below_all-removed x [] zero h = tt
+  below_all-removed x [] (suc i) h = tt
+  below_all-removed x (q ∷ ps) zero h = second _ _ h
+  below_all-removed x (q ∷ ps) (suc i) h = both _ _ (first _ _ h) (below_all-removed x ps i (second _ _ h))
+
+  -- without the entry at a place the list still ascends
+  pub is_sorted-removed : (ps : List P) (i : ℕ) → T (is_sorted R (map f ps)) → T (is_sorted R (map f (list_remove ps i)))
+  is_sorted-removed [] zero s = tt
+  is_sorted-removed [] (suc i) s = tt
+  is_sorted-removed (q ∷ ps) zero s = second _ _ s
+  is_sorted-removed (q ∷ ps) (suc i) s = both _ _ (below_all-removed (f q).0 ps i (first _ _ s)) (is_sorted-removed ps i (second _ _ s))
+
+  unlike : (q x y : K) → R x y ≡ Less → eq_by_cmp R q x ≡ true → eq_by_cmp R q y ≡ false
+  unlike q x y l e = let tie : q ≡ x = same q x (tied (R q x) e) in rw (tie, l) refl
+
+  -- and it has what it had, but at that key nothing
+  pub find_removed : (q : K) (ps : List P) (i : ℕ) (p : P) → T (is_sorted R (map f ps)) → slice_get ps i ≡ Some p → find R q (map f (list_remove ps i)) ≡ cond (eq_by_cmp R q (f p).0) None (find R q (map f ps))
+  find_removed q [] i p s e = cc
+  find_removed q (r ∷ ps) zero p s e =
+      let at : r ≡ p = cc in
+      subst (λ (t : P). find R q (map f ps) ≡ cond (eq_by_cmp R q (f t).0) None (find R q (map f (r ∷ ps)))) at
+      (elim (cases_Bool (eq_by_cmp R q (f r).0)) [
+        | inl t ↦ let none : find R q (map f ps) ≡ None = find-below_all R q (map f ps) (below_as R o q (f r).0 (map f ps) (tied (R q (f r).0) t) (first _ _ s)) in rw (t, none) refl
+        | inr n ↦ rw n refl
+      ])
+  find_removed q (r ∷ ps) (suc i) p s e =
+      let below : R (f r).0 (f p).0 ≡ Less = below_at (f r).0 ps i p (first _ _ s) e in
+      elim (cases_Bool (eq_by_cmp R q (f r).0)) [
+        | inl t ↦ let other = unlike q (f r).0 (f p).0 below t in rw (t, other) refl
+        | inr n ↦ rw n (find_removed q ps i p (second _ _ s) e)
+      ]
 
   -- each key is below those after it
   ascends : (ps : List P) (i j : ℕ) (d : P) → T (is_sorted R (map f ps)) → i < j → j < length ps → R (f (get_or ps i d)).0 (f (get_or ps j d)).0 ≡ Less

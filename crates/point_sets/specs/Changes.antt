@@ -1,9 +1,9 @@
 -- Changes of data sets, as maps from keys to an old and a new value (docs/language.md, "Data sets").
-use Rattle.std.specs.Prelude.{◌≡◌, ◌≢◌, List, [], ◌∷◌, map, Bool, Option, Some, None, T}
-use Rattle.std.specs.Option.{option_map}
+use Rattle.std.specs.Prelude.{◌≡◌, ◌≢◌, List, [], ◌∷◌, map, Bool, cond, Option, Some, None, T}
+use Rattle.std.specs.Option.{option_map, option_eq}
 use Rattle.std.specs.Arc.{arc_value}
 use Rattle.std.specs.Coded.{Coded}
-use Rattle.std.specs.FinMap.{from_entries, is_sorted}
+use Rattle.std.specs.FinMap.{from_entries, insert, is_sorted}
 use Rattle.std.specs.List.{All}
 use Rattle.std.specs.Ordering.{eq_by_cmp}
 use Rattle.std.specs.declared.sync.Arc.{Arc}
@@ -48,6 +48,10 @@ pub record IsChange (c : Change) : Type 0 where
 pub record AreChanges (cs : List Change) : Type 0 where
   pub ascend : T (is_sorted key_cmp (map change_entry cs))
   pub each : All IsChange cs
+
+-- the delta in which it is also noted what a key had and has; where these are equal there is nothing to note
+abbrev pub with_change : Changes → List Value → Option (List Value) → Option (List Value) → Changes
+with_change d k x y = cond (option_eq values_eq x y) d (insert d k (x, y))
 
 -- two places have equal points
 abbrev pub IsSamePoint : Option (Arc Point Global) → Option (Arc Point Global) → Type 0

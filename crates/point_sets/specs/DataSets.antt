@@ -20,24 +20,27 @@ values_coded = coded_list (value.the_row).coded
 abbrev pub data_set_coded : Coded DataSet
 data_set_coded = code values_coded values_coded
 
+-- a point's key, and its other values
+abbrev pub as_entry : Point → List Value × List Value
+as_entry p = (p.key, p.rest)
+
 abbrev pub key_of : Arc Point Global → List Value
 key_of p = (arc_value p).key
 
--- the values of a point behind its key
+-- the values of a point after its key
 abbrev pub rest_of : Arc Point Global → List Value
 rest_of p = (arc_value p).rest
 
--- a point's key, and its other values
 abbrev pub entry_of : Arc Point Global → List Value × List Value
-entry_of p = (key_of p, rest_of p)
+entry_of p = as_entry (arc_value p)
 
 -- the data set of a list of points; of two points with one key the first counts
-abbrev pub of_points : List (Arc Point Global) → DataSet
-of_points ps = from_entries (map entry_of ps)
+abbrev pub of_points : List Point → DataSet
+of_points ps = from_entries (map as_entry ps)
 
 -- each key is below those after it
-abbrev pub Ascend : List (Arc Point Global) → Type 0
-Ascend ps = T (is_sorted key_cmp (map entry_of ps))
+abbrev pub Ascend : List Point → Type 0
+Ascend ps = T (is_sorted key_cmp (map as_entry ps))
 
 -- the point that may be there has the key
 abbrev pub HasKey : List Value → Option (Arc Point Global) → Type 0

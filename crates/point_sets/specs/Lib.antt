@@ -1,3 +1,5 @@
 pub mod Changes
 pub mod DataSets
+pub mod Noted
 pub mod Places
+pub mod Unmeasured

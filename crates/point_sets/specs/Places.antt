@@ -6,21 +6,18 @@ use Rattle.std.specs.FinMap.Entries.{where_key}
 use Rattle.std.specs.Ordering.{is_lt}
 use Rattle.std.specs.declared.cmp.Ordering.{Ordering}
 use Rattle.std.specs.declared.cmp.Ordering.TheVariants.{Less, Greater}
-use Rattle.std.specs.declared.sync.Arc.{Arc}
-use Rattle.std.specs.declared.alloc.Global.{Global}
 use Rattle.vtl_values.specs.Order.{key_cmp}
 use Rattle.vtl_values.specs.declared.value.Value.{Value}
 use Rattle.point_sets.specs.declared.point.Point.{Point}
-use Rattle.point_sets.specs.DataSets.{key_of}
 
 -- the point at the place has the key
-abbrev pub IsAt : List (Arc Point Global) → List Value → ℕ → Type 0
-IsAt ps k at = option_map key_of (slice_get ps at) ≡ Some k
+abbrev pub IsAt : List Point → List Value → ℕ → Type 0
+IsAt ps k at = option_map (λ p. p.key) (slice_get ps at) ≡ Some k
 
 -- the keys before the place are below the key, and those from it on above
-pub record IsGap (ps : List (Arc Point Global)) (k : List Value) (at : ℕ) : Type 0 where
+pub record IsGap (ps : List Point) (k : List Value) (at : ℕ) : Type 0 where
   pub within : at ≤ length ps
-  pub parted : IsPartitionPoint (λ p. key_cmp (key_of p) k ≡ Less) (λ p. key_cmp (key_of p) k ≡ Greater) ps at
+  pub parted : IsPartitionPoint (λ p. key_cmp p.key k ≡ Less) (λ p. key_cmp p.key k ≡ Greater) ps at
 
 -- the entries whose keys are below a key, and those whose keys are above it
 abbrev pub below : {K X : Type 0} → (K → K → Ordering) → K → List (K × X) → List (K × X)

@@ -123,17 +123,16 @@ fn composed_changes(
     let mut all = Vec::new(alloc);
     let mut rest = then;
     for change in first {
-        let (next, later) = push_below(alloc, &mut all, rest, &change.key)?;
-        push_composed(alloc, &mut all, change, next)?;
+        let (next, later) = push_below(&mut all, rest, &change.key)?;
+        push_composed(&mut all, change, next)?;
         rest = later;
     }
-    push_all(alloc, &mut all, rest)?;
+    push_all(&mut all, rest)?;
     Ok(all)
 }
 
 /// Adds the changes whose keys are below a key, and answers the one at the key, if there is one, and those above.
 fn push_below<'a>(
-    alloc: Global,
     all: &mut Vec<Change>,
     changes: &'a [Change],
     key: &Key,
@@ -150,7 +149,7 @@ fn push_below<'a>(
     let mut rest = changes;
     while let Some((change, later)) = rest.split_first() {
         match change.key.cmp(key) {
-            Ordering::Less => all.push(copy_change(alloc, change)?)?,
+            Ordering::Less => all.push(copy_change(change)?)?,
             Ordering::Equal => return Ok((Some(change), later)),
             Ordering::Greater => return Ok((None, rest)),
         }
@@ -161,7 +160,6 @@ fn push_below<'a>(
 
 /// Adds one change for the two, if they don't come back to the old point.
 fn push_composed(
-    alloc: Global,
     all: &mut Vec<Change>,
     change: &Change,
     next: Option<&Change>,
@@ -173,12 +171,12 @@ fn push_composed(
     ensures all { OnOk result (All IsChange all.new.items) }
 {
     let Some(next) = next else {
-        all.push(copy_change(alloc, change)?)?;
+        all.push(copy_change(change)?)?;
         return Ok(());
     };
     if !have_same_values(&change.old, &next.new) {
         all.push(Change {
-            key: change.key.copy(alloc)?,
+            key: change.key.copy()?,
             old: copy_point(&change.old)?,
             new: copy_point(&next.new)?,
         })?;
@@ -186,25 +184,25 @@ fn push_composed(
     Ok(())
 }
 
-fn push_all(alloc: Global, all: &mut Vec<Change>, changes: &[Change]) -> Result<(), AllocError>
+fn push_all(all: &mut Vec<Change>, changes: &[Change]) -> Result<(), AllocError>
     requires changes { All IsChange changes.now }
     requires all { All IsChange all.old.items }
     ensures pushed { OnOk result (map change_entry all.new.items ≡ map change_entry all.old.items ++ map change_entry changes.now) }
     ensures all { OnOk result (All IsChange all.new.items) }
 {
     for change in changes {
-        all.push(copy_change(alloc, change)?)?;
+        all.push(copy_change(change)?)?;
     }
     Ok(())
 }
 
-fn copy_change(alloc: Global, change: &Change) -> Result<Change, AllocError>
+fn copy_change(change: &Change) -> Result<Change, AllocError>
     ensures key { IfOk result (λ copied. copied.key ≡ change.now.key) }
     ensures old { IfOk result (λ copied. IsSamePoint change.now.old copied.old) }
     ensures new { IfOk result (λ copied. IsSamePoint change.now.new copied.new) }
 {
     Ok(Change {
-        key: change.key.copy(alloc)?,
+        key: change.key.copy()?,
         old: copy_point(&change.old)?,
         new: copy_point(&change.new)?,
     })
@@ -219,107 +217,13 @@ fn copy_point(point: &Option<Arc<Point>>) -> Result<Option<Arc<Point>>, AllocErr
     }
 }
 
-fn have_same_values(one: &Option<Arc<Point>>, other: &Option<Arc<Point>>) -> bool
+/// Whether two places have points with the same values, or none.
+pub fn have_same_values(one: &Option<Arc<Point>>, other: &Option<Arc<Point>>) -> bool
     ensures { result ≡ option_eq values_eq (values_of one.now) (values_of other.now) }
 {
     match (one, other) {
         (None, None) => true,
         (Some(one), Some(other)) => one.rest.as_slice().cmp(&other.rest.as_slice()).is_eq(),
         _ => false,
-    }
-}
-
-#[cfg(test)]
-mod tests {
-    use super::*;
-    use crate::point_set::PointSet;
-    use sqlite_items::Items;
-    use std::test::Fail;
-    use vtl_values::{Value, Word};
-
-    fn key(alloc: Global, area: &str) -> Result<Key, AllocError> {
-        let mut values = Vec::new(alloc);
-        values.push(Value::Text(Word::from_str(alloc, area)?))?;
-        Ok(Key::of(values))
-    }
-
-    fn point(alloc: Global, area: &str, truth: bool) -> Result<Arc<Point>, AllocError> {
-        let mut rest = Vec::new(alloc);
-        rest.push(Value::Truth(truth))?;
-        let rest = Items::from_vec(rest);
-        let key = key(alloc, area)?;
-        Ok(Arc::new(alloc, Point { key, rest })?)
-    }
-
-    fn one(alloc: Global, change: Change) -> Result<Delta, AllocError>
-        requires { IsChange change }
-    {
-        let mut changes = Vec::new(alloc);
-        changes.push(change)?;
-        Ok(Delta::of(changes))
-    }
-
-    fn put(alloc: Global, area: &str, truth: bool) -> Result<Delta, AllocError> {
-        let point = point(alloc, area, truth)?;
-        let key = point.key.copy(alloc)?;
-        let new = Some(point);
-        one(
-            alloc,
-            Change {
-                key,
-                old: None,
-                new,
-            },
-        )
-    }
-
-    fn removed(alloc: Global, area: &str, truth: bool) -> Result<Delta, AllocError> {
-        let point = point(alloc, area, truth)?;
-        let key = point.key.copy(alloc)?;
-        let old = Some(point);
-        one(
-            alloc,
-            Change {
-                key,
-                old,
-                new: None,
-            },
-        )
-    }
-
-    #[test]
-    fn deltas_are_composed_and_applied(rt: HostRuntime) -> Result<(), Fail> {
-        let alloc = rt.alloc();
-        let both = compose(alloc, &put(alloc, "IT", true)?, &put(alloc, "FR", false)?)?;
-        let other = compose(
-            alloc,
-            &removed(alloc, "IT", true)?,
-            &put(alloc, "IT", false)?,
-        )?;
-        let same = compose(
-            alloc,
-            &removed(alloc, "IT", true)?,
-            &put(alloc, "IT", true)?,
-        )?;
-        let all = compose(alloc, &both, &other)?;
-        let undone = compose(alloc, &all, &removed(alloc, "FR", false)?)?;
-        for (delta, changes, points) in [
-            (&both, 2, 2),
-            (&other, 1, 1),
-            (&same, 0, 0),
-            (&all, 2, 2),
-            (&undone, 1, 1),
-        ] {
-            let mut set = PointSet::new(alloc);
-            set.apply(delta)?;
-            assert_eq!(rt; (delta.changes().len(), set.count()), (changes, points));
-        }
-        let mut set = PointSet::new(alloc);
-        set.apply(&both)?;
-        set.apply(&other)?;
-        let wanted = point(alloc, "IT", false)?;
-        let last = set.nth(1).expect(&rt, "two points");
-        assert!(rt; last.key == wanted.key && last.rest.as_slice() == wanted.rest.as_slice());
-        Ok(())
     }
 }

@@ -1,32 +1,37 @@
 // Keys.
 ghost use Rattle.std.specs.Prelude.{◌≡◌, IfOk};
 
+use sqlite_items::Items;
 use std::alloc::{AllocError, Global};
 use std::cmp::Ordering;
 use std::marker::Model;
+use std::sync::Arc;
 use vtl_values::Value;
 
 /// What tells a point from the others of its data set: the values of the identifiers, in structure order. Contracts
-/// see it as the list of its values; keys are ordered by their values, from the first on.
+/// see it as the list of its values; keys are ordered by their values, from the first on. Copies share the values.
 #[derive(Debug, Drop)]
 pub struct Key {
-    values: Vec<Value>,
+    values: Arc<Items<Value>>,
 }
 
 impl Model for Key {
     ghost use Rattle.std.specs.Prelude.{List};
+    ghost use Rattle.std.specs.Arc.{arc_value};
     ghost use Rattle.vtl_values.specs.declared.value.Value.{Value as V};
 
     ghost Value = { List V };
 
-    ghost view = { λ key. key.values.items };
+    ghost view = { λ key. arc_value key.values };
 }
 
 impl Key {
-    pub fn of(values: Vec<Value>) -> Key
-        ensures { result ≡ values.items }
+    pub fn of(alloc: Global, values: Vec<Value>) -> Result<Key, AllocError>
+        ensures { IfOk result (λ key. key ≡ values.items) }
     {
-        Key { values }
+        Ok(Key {
+            values: Arc::new(alloc, Items::from_vec(values))?,
+        })
     }
 
     pub fn values(&self) -> &[Value]
@@ -35,25 +40,14 @@ impl Key {
         self.values.as_slice()
     }
 
-    /// An equal key, or want of memory.
-    pub fn copy(&self, alloc: Global) -> Result<Key, AllocError>
+    /// An equal key, which shares the values, or want of memory.
+    pub fn copy(&self) -> Result<Key, AllocError>
         ensures { IfOk result (λ key. key ≡ self.now) }
     {
         Ok(Key {
-            values: copy_values(alloc, self.values.as_slice())?,
+            values: self.values.clone()?,
         })
     }
-}
-
-/// Equal values, or want of memory.
-pub(crate) fn copy_values(alloc: Global, values: &[Value]) -> Result<Vec<Value>, AllocError>
-    ensures { IfOk result (λ copies. copies.items ≡ values.now) }
-{
-    let mut copies = Vec::new(alloc);
-    for value in values {
-        copies.push(value.copy()?)?;
-    }
-    Ok(copies)
 }
 
 impl PartialEq for Key {
@@ -107,6 +101,6 @@ impl Ord for Key {
     ghost matches_eq = { λ x y. refl };
 
     fn cmp(&self, other: &Self) -> Ordering {
-        self.values.as_slice().cmp(&other.values.as_slice())
+        self.values().cmp(&other.values())
     }
 }

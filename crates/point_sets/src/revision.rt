@@ -45,18 +45,3 @@ pub struct Revision {
     pub set: Word,
     pub rows: Items<RawRow>,
 }
-
-#[cfg(test)]
-mod tests {
-    use super::*;
-    use std::test::Fail;
-
-    #[test]
-    fn fields_are_copied(rt: HostRuntime) -> Result<(), Fail> {
-        let text = Word::from_str(rt.alloc(), "a b")?;
-        for field in [RawField::Empty, RawField::Given(text)] {
-            assert!(rt; field.copy()? == field);
-        }
-        Ok(())
-    }
-}

@@ -19,7 +19,7 @@ use Rattle.revision_judge.specs.Fields.{Cell, cells, field_or_empty, text_in, fi
 use Rattle.revision_judge.specs.Steps.{◌>>=◌}
 use Rattle.revision_judge.specs.Stops.{Refuses, stop_of_text}
 
--- the values so far, and behind them what is still to be read
+-- the values so far, and after them what is still to be read
 abbrev pub behind : List Value → Result (List Value) Cause → Result (List Value) Cause
 behind values rest = rest >>= (λ more. Ok (values ++ more))
 

@@ -14,12 +14,11 @@ use Rattle.vtl_values.specs.declared.value.Value.{Value}
 use Rattle.vtl_values.specs.Order.{key_cmp}
 use Rattle.vtl_values.proofs.Values.{key_cmp-IsTotalOrder}
 use Rattle.data_model.specs.Maps.{is_listed}
-use Rattle.data_model.specs.Drafts.{note_value}
 use Rattle.data_model.specs.declared.TheConstants.{POINT_LIMIT}
 use Rattle.data_model.proofs.MapLemmas.{is_listed-keys}
 use Rattle.point_sets.specs.declared.point.Point.{Point}
 use Rattle.point_sets.specs.DataSets.{DataSet}
-use Rattle.point_sets.specs.Changes.{values_eq, values_of}
+use Rattle.point_sets.specs.Changes.{values_of, with_change}
 use Rattle.revision_judge.specs.declared.cause.Cause.{Cause}
 use Rattle.revision_judge.specs.declared.cause.Cause.TheVariants.{KeyTwice, NoSuchPoint, SetFull}
 use Rattle.revision_judge.specs.declared.stop.RowStop.{RowStop}
@@ -89,21 +88,21 @@ module _ (before : DataSet) (t : Tally) (p : Progress) (h : IsTally before t p) 
   put-refused rest many = put-full p key rest unlisted (subst (λ n. POINT_LIMIT < n) (sym (len-put rest)) many)
 
   module _ (u : Tally) (added : (q : List Value) → contains key_cmp u.keys q ≡ cond (eq_by_cmp key_cmp key q) true (contains key_cmp t.keys q)) where
-    pub put-granted : (rest : List Value) → u.points ≡ with_point (is_some old) t.points → u.points ≤ POINT_LIMIT → u.draft ≡ note_value values_eq key (values_of old) (Some rest) t.draft → IsOkAnd (granted p (Put key rest)) (IsTally before u)
-    put-granted rest points few draft =
+    pub put-granted : (rest : List Value) → u.points ≡ with_point (is_some old) t.points → u.points ≤ POINT_LIMIT → u.notes ≡ with_change t.notes key (values_of old) (Some rest) → IsOkAnd (granted p (Put key rest)) (IsTally before u)
+    put-granted rest points few noted =
         let now : u.points ≡ len (insert p.set key rest) = points ∙ sym (len-put rest) in
         let within : len (insert p.set key rest) ≤ POINT_LIMIT = subst (λ n. n ≤ POINT_LIMIT) now few in
         subst (λ (r : Result Progress Cause). IsOkAnd r (IsTally before u)) (sym (put-fits p key rest unlisted within))
-        (tally-grown before t u p h key (values_of old) (Some rest) (insert p.set key rest) absent added (sym is) draft (get-insert key_cmp-IsTotalOrder p.set key rest) now within)
+        (tally-grown before t u p h key (values_of old) (Some rest) (insert p.set key rest) absent added (sym is) noted (get-insert key_cmp-IsTotalOrder p.set key rest) now within)
 
-    pub remove-granted : is_some old ≡ true → u.points ≡ t.points - 1 → u.draft ≡ note_value values_eq key (values_of old) None t.draft → IsOkAnd (granted p (Remove key)) (IsTally before u)
-    remove-granted some points draft =
+    pub remove-granted : is_some old ≡ true → u.points ≡ t.points - 1 → u.notes ≡ with_change t.notes key (values_of old) None → IsOkAnd (granted p (Remove key)) (IsTally before u)
+    remove-granted some points noted =
         let now : u.points ≡ len (remove p.set key) = points ∙ len-removed some in
         let was : t.points ≤ POINT_LIMIT = subst (λ n. n ≤ POINT_LIMIT) (sym h.points) h.few in
         let fewer : u.points ≤ POINT_LIMIT = omega (arith, points, was) in
         let within : len (remove p.set key) ≤ POINT_LIMIT = subst (λ n. n ≤ POINT_LIMIT) now fewer in
         subst (λ (r : Result Progress Cause). IsOkAnd r (IsTally before u)) (sym (remove-some p key unlisted (there-now ∙ some)))
-        (tally-grown before t u p h key (values_of old) None (remove p.set key) absent added (sym is) draft (get-remove key_cmp-IsTotalOrder p.set key) now within)
+        (tally-grown before t u p h key (values_of old) None (remove p.set key) absent added (sym is) noted (get-remove key_cmp-IsTotalOrder p.set key) now within)
 
 -- ---- a row has one key
 

@@ -14,7 +14,7 @@ use Rattle.revision_judge.specs.Fields.{Cell, cells, key_cells, rest_cells}
 abbrev at_role : Component → Role → Component
 at_role c r = record { name = c.name; role = r; kind = c.kind; codes = c.codes }
 
--- behind a component that is no identifier stands none
+-- after a component that is no identifier stands none
 later-role : (c d : Component) (r s : Role) → place_of r ≤ place_of s → is_identifier (at_role c r) ≡ false → is_identifier (at_role d s) ≡ false
 later-role c d Identifier s h no' = cc
 later-role c d r Measure h no' = refl
@@ -36,7 +36,7 @@ all_others (c ∷ cs) (f ∷ fs) h =
     let later = all_others cs fs (λ k d l. h (suc k) d (omega (arith, l))) in
     rw first (later.0, ap (λ (t : List Cell). (c, f) ∷ t) later.1)
 
--- no component stands behind one of a later role
+-- no component stands after one of a later role
 abbrev InOrder : List Component → Type 0
 InOrder components = (i j : ℕ) (d : Component) → i < j → j < length components → place_of (get_or components i d).role ≤ place_of (get_or components j d).role
 

@@ -25,9 +25,8 @@ pub record IsTally (before : DataSet) (tally : Tally) (p : Progress) : Type 0 wh
   -- it counts the points after them, which are within the limit
   pub points : tally.points ≡ len p.set
   pub few : len p.set ≤ POINT_LIMIT
-  -- its draft has what they changed, key by key
-  pub in_range : tally.draft.beyond ≡ None
-  pub leads : (k : List Value) → LeadsAt (get tally.draft.changes k) (get before k) (get p.set k)
+  -- it has noted what they changed, key by key
+  pub leads : (k : List Value) → LeadsAt (get tally.notes k) (get before k) (get p.set k)
   -- and at other keys nothing changed
   pub others : (k : List Value) → is_listed key_cmp p.keys k ≡ false → get p.set k ≡ get before k
 

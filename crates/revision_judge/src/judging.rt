@@ -71,7 +71,7 @@ fn judge_rows(
         Some(refusal) => Ok(Ruling::Refused(refusal)),
         None => Ok(Ruling::Fit {
             set: number as u64,
-            delta: tally.finish(alloc, set)?,
+            delta: tally.finish(alloc)?,
         }),
     }
 }

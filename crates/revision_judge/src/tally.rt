@@ -12,8 +12,7 @@ use crate::fields::{key_fields, key_in, rest_in};
 use crate::ruling::Refusal;
 use crate::stop::RowStop;
 use data_model::POINT_LIMIT;
-use held_index::{Draft, Stop};
-use point_sets::{Action, Change, Delta, Key, Point, PointSet, RawRow};
+use point_sets::{Action, Change, Delta, Key, Notes, Point, PointSet, RawRow};
 use sqlite_items::Items;
 use std::alloc::{AllocError, Global};
 use std::collections::BTreeSet;
@@ -25,7 +24,7 @@ use vtl_values::Component;
 pub struct Tally {
     keys: BTreeSet<Key>,
     points: u64,
-    draft: Draft,
+    notes: Notes,
 }
 
 impl Tally {
@@ -36,7 +35,7 @@ impl Tally {
         Tally {
             keys: BTreeSet::new(alloc),
             points,
-            draft: Draft::new(alloc),
+            notes: Notes::new(alloc),
         }
     }
 
@@ -45,11 +44,11 @@ impl Tally {
         requires { IsOfRows set.now self.old }
         ensures { (p : Progress) → IsTally set.now self.old p → AnswersRow set.now self.new (granted p (Put point.key point.rest)) result }
     {
-        see(alloc, &mut self.keys, &point.key)?;
+        see(&mut self.keys, &point.key)?;
         let old = point_at(set, &point.key)?;
         let points = with_point(self.points, &old)?;
         let change = change_to(alloc, old, point)?;
-        self.draft.note(change)?;
+        self.notes.note(change)?;
         self.points = points;
         Ok(())
     }
@@ -59,13 +58,13 @@ impl Tally {
         requires { IsOfRows set.now self.old }
         ensures { (p : Progress) → IsTally set.now self.old p → AnswersRow set.now self.new (granted p (Remove key)) result }
     {
-        see(alloc, &mut self.keys, &key)?;
+        see(&mut self.keys, &key)?;
         let old = point_at(set, &key)?;
         if old.is_none() {
             return Err(RowStop::Refused(Cause::NoSuchPoint));
         }
         let new = None;
-        self.draft.note(Change { key, old, new })?;
+        self.notes.note(Change { key, old, new })?;
         self.points -= 1;
         Ok(())
     }
@@ -82,7 +81,7 @@ impl Tally {
         ensures { (p : Progress) → IsTally set.now self.old p → AnswersRow set.now self.new (row_judged components.now p row.now) result }
     {
         let fields = row.fields.as_slice();
-        let key = Key::of(key_in(alloc, components, fields)?);
+        let key = Key::of(alloc, key_in(alloc, components, fields)?)?;
         match row.action {
             Action::Put => {
                 let rest = Items::from_vec(rest_in(alloc, components, fields)?);
@@ -116,34 +115,27 @@ impl Tally {
     }
 
     /// The delta from the data set to the one after the rows.
-    pub fn finish(self, alloc: Global, set: &PointSet) -> Result<Delta, AllocError>
-        requires few { finmap.len set.now ≤ POINT_LIMIT }
-        requires rows { IsOfRows set.now self }
-        ensures { IfOk result (λ delta. (p : Progress) → IsTally set.now self p → Leads delta set.now p.set) }
+    pub fn finish(self, alloc: Global) -> Result<Delta, AllocError>
+        ensures { IfOk result (λ delta. (before : DataSet) (p : Progress) → IsTally before self p → Leads delta before p.set) }
     {
         let Tally {
             keys: _,
             points: _,
-            draft,
+            notes,
         } = self;
-        match draft.finish(alloc, set.count()) {
-            Ok(delta) => Ok(delta),
-            Err(Stop::Memory) => Err(AllocError),
-            Err(Stop::Range(_)) => unreachable!(),
-            Err(Stop::TooMany) => unreachable!(),
-        }
+        notes.finish(alloc)
     }
 }
 
 /// Adds a key, unless it is there.
-fn see(alloc: Global, keys: &mut BTreeSet<Key>, key: &Key) -> Result<(), RowStop>
+fn see(keys: &mut BTreeSet<Key>, key: &Key) -> Result<(), RowStop>
     ensures ok { OnOk result (AddsKey keys.old keys.new key.now) }
     ensures err { IfErr result (StopsAtKey keys.old key.now) }
 {
     if keys.contains(key) {
         return Err(RowStop::Refused(Cause::KeyTwice));
     }
-    keys.insert(key.copy(alloc)?)?;
+    keys.insert(key.copy()?)?;
     Ok(())
 }
 
@@ -180,12 +172,12 @@ fn change_to(alloc: Global, old: Option<Arc<Point>>, point: Point) -> Result<Cha
     ensures new { IfOk result (λ change. values_of change.new ≡ Some point.rest) }
     ensures new_key { IfOk result (λ change. HasKey point.key change.new) }
 {
-    let key = point.key.copy(alloc)?;
+    let key = point.key.copy()?;
     let new = Some(Arc::new(alloc, point)?);
     Ok(Change { key, old, new })
 }
 
-/// The refusal for the row behind n others.
+/// The refusal for the row after n others.
 fn refusal(
     alloc: Global,
     components: &[Component],

@@ -76,7 +76,7 @@ given_what (Right deltas points pages) i = Returned i
 given_what (Fault kept told) i = Returned i
 given_what FinishGaveUp i = GaveUp i
 
--- what giving back answers, and the journal after it: the entry of the work, and where the round ended its end behind it; the fault that is told says what the one in the journal says
+-- what giving back answers, and the journal after it: the entry of the work, and where the round ended its end after it; the fault that is told says what the one in the journal says
 abbrev pub GivesSo : Seen → ℕ → What → Given → Seen → Type 0
 GivesSo old n w Counted new = new ≡ seen_with old n w
 GivesSo old n w (GivenPublished k) new = (new ≡ seen_with (seen_with old n w) n (Published (state_in old).to)) × (k ≡ (state_in old).number + 1)

@@ -73,7 +73,7 @@ pub record OpenStill (a : Machine) (n : ℕ) : Type 0 where
   pub running : (state_of a.journal.items).running ≡ true
   pub same_caller : (state_of a.journal.items).by ≡ n
 
--- the round goes on, or its end stands behind its last entry
+-- the round goes on, or its end stands after its last entry
 abbrev pub EndedSo : Seen → ℕ → Given → Seen → Type 0
 EndedSo old n Counted new = new ≡ old
 EndedSo old n (GivenPublished k) new = (new ≡ seen_with old n (Published (state_in old).to)) × (k ≡ (state_in old).number + 1)

@@ -17,7 +17,9 @@ pub fn every_production_stands(production: &Production) -> &Release
     ensures pages { result.now.pages ≡ pages_on production.now.script (inputs production.now.script result.now.prefix (state_in production.now)) }
     ensures in_bounds { script_wrong production.now.script (inputs production.now.script result.now.prefix (state_in production.now)) ≡ None }
 {
+    // Its clauses say that the journal is legal and within its limits.
     let _ = production.journal();
+    // Its clause says that the script is checked.
     let _ = production.script().statements();
     production.latest()
 }

@@ -95,6 +95,7 @@ impl Machine {
         })
     }
 
+    /// All that happened, in order.
     pub fn into_journal(self) -> Journal
         ensures { result.entries ≡ self.journal.items }
     {

@@ -55,12 +55,14 @@ impl Production {
         requires fields { limits.fields ≤ FIELD_LIMIT }
         ensures { IfOk result (λ p. p ≡ record { script = script; limits = limits; journal = [] }) }
     {
+        // Its clause tells that the script is checked.
         let _ = script.statements();
         Ok(Production {
             machine: Machine::new(alloc, script, limits)?,
         })
     }
 
+    /// The script that the production runs.
     pub fn script(&self) -> &CheckedScript
         ensures { result.now ≡ self.now.script }
     {

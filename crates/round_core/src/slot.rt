@@ -100,6 +100,7 @@ impl Slot {
         }
     }
 
+    /// Whether the statement was handed out and hasn't come back.
     pub fn is_out(&self) -> bool
         ensures { result ≡ is_out self.now }
     {

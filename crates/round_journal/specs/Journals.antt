@@ -144,7 +144,7 @@ abbrev pub fault_said : ScriptFault → ScriptWrong
 fault_said (At statement fault) = StatementWrong statement (wrong_of fault)
 fault_said (Total points) = TotalWrong points
 
--- the end of a round: it is over, and its end carries its prefix and stands directly behind its last entry, made by the same caller
+-- the end of a round: it is over, and its end carries its prefix and stands directly after its last entry, made by the same caller
 pub record Ends (c : Script) (s : State) (n to : ℕ) : Type 0 where
   pub over : Over c s
   pub prefix : to ≡ s.to

@@ -7,16 +7,11 @@ use Rattle.operator_meaning.specs.Scripts.{states}
 use Rattle.point_sets.specs.DataSets.{DataSet}
 use Rattle.held_index.specs.Holdings.{Holding}
 use Rattle.release_text.specs.Releases.{Page}
-use Rattle.transform_nodes.specs.Trees.{Plain, Plains, Source, Operates, none, more, plain, count_of, applied, all_applied, forgotten, all_forgotten, patched, IsFit, AllFit, HasPatches, AllHavePatches, StandsOn}
+use Rattle.transform_nodes.specs.Trees.{Plain, Plains, Source, Operates, none, more, plain, count_of, applied, all_applied, forgotten, all_forgotten, IsFit, AllFit, HasPatches, AllHavePatches, StandsOn}
 use Rattle.transform_nodes.specs.Nodes.{HasSameParts, IsNodeOf, CanSettle, settled_tree, settled_pages, WorksOut, StandsAs, numbered}
 use Rattle.transform_nodes.specs.declared.node.Node.{Node}
 use Rattle.transform_nodes.specs.declared.work.Settle.{Settle}
 use Rattle.transform_nodes.specs.declared.work.Settle.TheVariants.{Apply, Forget}
-
-pub length-patched : (held : List Holding) (pending : List DataSet) → length pending ≡ length held → length (patched held pending) ≡ length held
-length-patched [] pending e = refl
-length-patched (h ∷ hs) [] e = absurd (omega arith)
-length-patched (h ∷ hs) (x ∷ xs) e = ap suc (length-patched hs xs (omega arith))
 
 pub count-applied : (ps : Plains) → count_of (all_applied ps) ≡ count_of ps
 count-applied none = refl
@@ -29,7 +24,7 @@ count-forgotten (more p ps) = ap suc (count-forgotten ps)
 mutual
   applied-fit : (n : ℕ) (p : Plain) → HasPatches p → IsFit n p → IsFit n (applied p)
   applied-fit n (Source k) h f = f
-  applied-fit n (Operates rule place ps held points pending pp) h f = (all_applied-fit n ps h.0 f.0, count-applied ps ∙ f.1, length-patched held pending h.1 ∙ f.2, h.2)
+  applied-fit n (Operates rule place ps held points pending pp) h f = (all_applied-fit n ps h.0 f.0, count-applied ps ∙ f.1, h.1 ∙ f.2, h.2)
 
   all_applied-fit : (n : ℕ) (ps : Plains) → AllHavePatches ps → AllFit n ps → AllFit n (all_applied ps)
   all_applied-fit n none h f = tt
@@ -65,7 +60,7 @@ fit-kept n p q e f = fit-forgotten n q (subst (λ (t : Plain). IsFit n t) (sym e
 mutual
   forgotten-applied : (p : Plain) → forgotten (applied p) ≡ applied p
   forgotten-applied (Source n) = refl
-  forgotten-applied (Operates rule place ps held points pending pp) = ap (λ (t : Plains). Operates rule place t (patched held pending) pp [] 0) (all_forgotten-applied ps)
+  forgotten-applied (Operates rule place ps held points pending pp) = ap (λ (t : Plains). Operates rule place t pending pp [] 0) (all_forgotten-applied ps)
 
   all_forgotten-applied : (ps : Plains) → all_forgotten (all_applied ps) ≡ all_applied ps
   all_forgotten-applied none = refl

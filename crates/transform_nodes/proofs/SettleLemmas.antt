@@ -2,9 +2,8 @@
 use Rattle.std.proofs.Common.{◌≡◌, ℕ, zero, suc, ◌+◌, ◌<◌, ◌≤◌, List, [], ◌∷◌, ◌++◌, map, take, drop, set, get_or, length, length-append, refl, sym, ◌∙◌, ap, subst, arith}
 use Rattle.std.proofs.Math.ListN.{get_or-map}
 use Rattle.std.proofs.lemmas.List.{length-map, map-set, map-append, take_all, take_more}
-use Rattle.point_sets.specs.DataSets.{DataSet}
 use Rattle.held_index.specs.Holdings.{Holding}
-use Rattle.transform_nodes.specs.Trees.{Plain, Plains, more, plains_of, plain, applied, forgotten, patched}
+use Rattle.transform_nodes.specs.Trees.{Plain, Plains, more, plains_of, plain, applied, forgotten}
 use Rattle.transform_nodes.specs.Nodes.{CanSettle, AllCanSettle, settled_tree, all_settled}
 use Rattle.transform_nodes.specs.declared.node.Child.{Child}
 use Rattle.transform_nodes.specs.declared.work.Settle.{Settle}
@@ -51,26 +50,26 @@ module _ (settle : Settle) (ks0 ks : List Child) (i : ℕ) (k new : Child) (with
 
 -- ---- patches, from the last to the first
 
-pub put-none : (h0 : List Holding) (q0 : List DataSet) → length q0 ≡ length h0 → h0 ≡ take (length q0) h0 ++ drop (length q0) (patched h0 q0)
+pub put-none : (h0 q0 : List Holding) → length q0 ≡ length h0 → h0 ≡ take (length q0) h0 ++ drop (length q0) q0
 put-none [] [] long = refl
 put-none [] (q ∷ qs) long = absurd (omega arith)
 put-none (h ∷ hs) [] long = absurd (omega arith)
 put-none (h ∷ hs) (q ∷ qs) long = ap (λ (t : List Holding). h ∷ t) (put-none hs qs (omega arith))
 
-put_at : (h0 : List Holding) (q0 : List DataSet) (n : ℕ) (p : DataSet) (x : Holding) → length q0 ≡ length h0 → n < length q0 → get_or q0 n p ≡ p → x ≡ get_or (take (suc n) h0 ++ drop (suc n) (patched h0 q0)) n x
-    → set (take (suc n) h0 ++ drop (suc n) (patched h0 q0)) n (record x { content = p }) ≡ take n h0 ++ drop n (patched h0 q0)
-put_at [] q0 n p x long l last is = absurd (omega arith)
-put_at (h ∷ hs) [] n p x long l last is = absurd (omega arith)
-put_at (h ∷ hs) (q ∷ qs) zero p x long l last is = ap (λ (t : Holding). record t { content = p } ∷ patched hs qs) is ∙ ap (λ (t : DataSet). record h { content = t } ∷ patched hs qs) (sym last)
-put_at (h ∷ hs) (q ∷ qs) (suc n) p x long l last is = ap (λ (t : List Holding). h ∷ t) (put_at hs qs n p x (omega arith) (omega arith) last is)
+put_at : (h0 q0 : List Holding) (n : ℕ) (p : Holding) → length q0 ≡ length h0 → n < length q0 → get_or q0 n p ≡ p
+    → set (take (suc n) h0 ++ drop (suc n) q0) n p ≡ take n h0 ++ drop n q0
+put_at [] q0 n p long l last = absurd (omega arith)
+put_at (h ∷ hs) [] n p long l last = absurd (omega arith)
+put_at (h ∷ hs) (q ∷ qs) zero p long l last = ap (λ (t : Holding). t ∷ qs) (sym last)
+put_at (h ∷ hs) (q ∷ qs) (suc n) p long l last = ap (λ (t : List Holding). h ∷ t) (put_at hs qs n p (omega arith) (omega arith) last)
 
 -- the last of the first items
-pub record IsLast (first : List DataSet) (p : DataSet) (all : List DataSet) : Type 0 where
+pub record IsLast (first : List Holding) (p : Holding) (all : List Holding) : Type 0 where
   pub first_is : first ≡ take (length first) all
   pub last_is : get_or all (length first) p ≡ p
   pub within : length first < length all
 
-pub last_of : (first all : List DataSet) (p : DataSet) (m : ℕ) → first ++ p ∷ [] ≡ take m all → IsLast first p all
+pub last_of : (first all : List Holding) (p : Holding) (m : ℕ) → first ++ p ∷ [] ≡ take m all → IsLast first p all
 last_of [] all p zero e = cc
 last_of [] [] p (suc m) e = cc
 last_of [] (q ∷ qs) p (suc m) e = let same : q ≡ p = cc in record { first_is = refl; last_is = same; within = omega arith }
@@ -86,20 +85,20 @@ last_of (a ∷ rest) (q ∷ qs) p (suc m) e =
     record { first_is = (λ i. h i ∷ t i); last_is = r.last_is; within = omega (arith, l) }
 
 -- one patch more is in place
-pub record IsPutMore (h0 : List Holding) (q0 : List DataSet) (first : List DataSet) (h : List Holding) : Type 0 where
+pub record IsPutMore (h0 q0 first h : List Holding) : Type 0 where
   pub few : length first ≤ length q0
   pub left : first ≡ take (length first) q0
-  pub put : h ≡ take (length first) h0 ++ drop (length first) (patched h0 q0)
+  pub put : h ≡ take (length first) h0 ++ drop (length first) q0
 
-pub put-more : (h0 h : List Holding) (q0 all first : List DataSet) (p : DataSet) (x : Holding) → length q0 ≡ length h0 → all ≡ first ++ p ∷ [] → all ≡ take (length all) q0 → h ≡ take (length all) h0 ++ drop (length all) (patched h0 q0) → x ≡ get_or h (length first) x
-    → IsPutMore h0 q0 first (set h (length first) (record x { content = p }))
-put-more h0 h q0 all first p x long parts left put is =
+pub put-more : (h0 h q0 all first : List Holding) (p : Holding) → length q0 ≡ length h0 → all ≡ first ++ p ∷ [] → all ≡ take (length all) q0 → h ≡ take (length all) h0 ++ drop (length all) q0
+    → IsPutMore h0 q0 first (set h (length first) p)
+put-more h0 h q0 all first p long parts left put =
     let l = last_of first q0 p (length all) (sym parts ∙ left) in
     let n : length all ≡ suc (length first) = ap length parts ∙ length-append first (p ∷ []) ∙ (omega arith) in
-    let put' : h ≡ take (suc (length first)) h0 ++ drop (suc (length first)) (patched h0 q0) = put ∙ ap (λ m. take m h0 ++ drop m (patched h0 q0)) n in
+    let put' : h ≡ take (suc (length first)) h0 ++ drop (suc (length first)) q0 = put ∙ ap (λ m. take m h0 ++ drop m q0) n in
     let within = l.within in
     record {
       few = omega (arith, within);
       left = l.first_is;
-      put = ap (λ (t : List Holding). set t (length first) (record x { content = p })) put' ∙ put_at h0 q0 (length first) p x long l.within l.last_is (is ∙ ap (λ (t : List Holding). get_or t (length first) x) put');
+      put = ap (λ (t : List Holding). set t (length first) p) put' ∙ put_at h0 q0 (length first) p long l.within l.last_is;
     }

@@ -21,7 +21,7 @@ use Rattle.held_index.specs.Holdings.{Holding}
 use Rattle.transform_nodes.specs.Halts.{wrong_in}
 use Rattle.transform_nodes.specs.Rules.{operator_of}
 use Rattle.transform_nodes.specs.Runs.{news_of, AllLeads, IsWork, IsWorked, WorkAnswer, WorksRight, Moves, IsRunnable, AreRunnable, RanOne, RanAll, RunsRight}
-use Rattle.transform_nodes.specs.Trees.{Plain, Plains, Source, Operates, none, more, plains_of, expression, all_expressions, counted, patched, Holds, HoldsOn, StandsOn, AllStandOn, applied, all_applied, forgotten, all_forgotten, count_of, IsFit, AllFit, HasPatches, AllHavePatches}
+use Rattle.transform_nodes.specs.Trees.{Plain, Plains, Source, Operates, none, more, plains_of, expression, all_expressions, counted, Holds, HoldsOn, StandsOn, AllStandOn, applied, all_applied, forgotten, all_forgotten, count_of, IsFit, AllFit, HasPatches, AllHavePatches}
 use Rattle.transform_nodes.specs.declared.carry.Ran.{Ran}
 use Rattle.transform_nodes.specs.declared.halt.Halt.{Halt}
 use Rattle.transform_nodes.specs.declared.operate.Worked.{Worked}
@@ -151,7 +151,7 @@ work_along rule h h' ds ds' b zs ys p q w = subst (λ (t : List Holding). IsWork
 pub works_along : (rule : Rule) (place : Place) (h h' : List Holding) (ds ds' : List Changes) (b : ℕ) (r : Result Worked Halt) → h ≡ h' → ds ≡ ds' → WorksRight rule place h ds b r → WorksRight rule place h' ds' b r
 works_along rule place h h' ds ds' b r p q w = subst (λ (t : List Holding). WorksRight rule place t ds' b r) p (subst (λ (t : List Changes). WorksRight rule place h t b r) q w)
 
-module _ (rule : Rule) (place : Place) (ps qs : List Plain) (held : List Holding) (points : ℕ) (pending : List DataSet) (pp : ℕ) where
+module _ (rule : Rule) (place : Place) (ps qs : List Plain) (held : List Holding) (points : ℕ) (pending : List Holding) (pp : ℕ) where
   abbrev tree : Plain
   tree = Operates rule place (plains_of ps) held points pending pp
 
@@ -190,7 +190,7 @@ module _ (rule : Rule) (place : Place) (ps qs : List Plain) (held : List Holding
           leads = w.leads;
           counts = counted_sum (points_of ran.after) (len w.new) done.points k total ran.counts (omega (arith, count, few)) e;
           patches = (ran.patches, w.long, w.few);
-          stands = (ran.stands, subst (λ (r : Result (List Evaluated) Wrong). HoldsOn rule r (patched held done.patches.items) done.points) (sym (ap (results_of m.new) (all_expressions-applied (plains_of qs) ∙ all_expressions-kept (plains_of ps) (plains_of qs) kept) ∙ ran.is)) w.holds);
+          stands = (ran.stands, subst (λ (r : Result (List Evaluated) Wrong). HoldsOn rule r done.patches.items done.points) (sym (ap (results_of m.new) (all_expressions-applied (plains_of qs) ∙ all_expressions-kept (plains_of ps) (plains_of qs) kept) ∙ ran.is)) w.holds);
         }
 
 -- ---- the i-th of a list of operands

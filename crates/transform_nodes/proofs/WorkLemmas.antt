@@ -31,18 +31,17 @@ use Rattle.held_index.specs.declared.want.Want.{Want}
 use Rattle.transform_nodes.specs.Halts.{halted, wrong_in}
 use Rattle.transform_nodes.specs.Rules.{operator_of, wanted_of}
 use Rattle.transform_nodes.specs.Runs.{news_of, AllLeads, planned, IsPlannable, CanPlan, IsWork, IsWorked}
-use Rattle.transform_nodes.specs.Trees.{patched}
 use Rattle.transform_nodes.specs.declared.operate.Worked.{Worked}
 use Rattle.transform_nodes.specs.declared.rule.Rule.{Rule}
 use Rattle.transform_nodes.proofs.RuleLemmas.{wanted_below}
 
 -- ---- patches
 
-pub planned_more : (ws : List Want) (hs : List Holding) (ds : List Changes) (i : ℕ) (w : Want) (h : Holding) → length hs ≡ length ws → i < length ws → take (i + 1) (planned ws hs ds) ≡ take i (planned ws hs ds) ++ apply (news_of (get_or ws i w).operand ds) (get_or hs i h).content ∷ []
+pub planned_more : (ws : List Want) (hs : List Holding) (ds : List Changes) (i : ℕ) (w : Want) (h : Holding) → length hs ≡ length ws → i < length ws → take (i + 1) (planned ws hs ds) ≡ take i (planned ws hs ds) ++ record (get_or hs i h) { content = apply (news_of (get_or ws i w).operand ds) (get_or hs i h).content } ∷ []
 planned_more [] hs ds i w h e l = absurd (omega arith)
 planned_more (v ∷ ws) [] ds i w h e l = absurd (omega arith)
 planned_more (v ∷ ws) (k ∷ hs) ds zero w h e l = refl
-planned_more (v ∷ ws) (k ∷ hs) ds (suc i) w h e l = let s : suc i + 1 ≡ suc (i + 1) = omega arith in rw s (ap (λ (t : List DataSet). apply (news_of v.operand ds) k.content ∷ t) (planned_more ws hs ds i w h (omega arith) (omega arith)))
+planned_more (v ∷ ws) (k ∷ hs) ds (suc i) w h e l = let s : suc i + 1 ≡ suc (i + 1) = omega arith in rw s (ap (λ (t : List Holding). record k { content = apply (news_of v.operand ds) k.content } ∷ t) (planned_more ws hs ds i w h (omega arith) (omega arith)))
 
 pub length-planned : (ws : List Want) (hs : List Holding) (ds : List Changes) → length hs ≡ length ws → length (planned ws hs ds) ≡ length ws
 length-planned [] hs ds e = refl
@@ -63,13 +62,13 @@ few_at n (t ∷ ts) [] h = absurd h
 few_at zero (t ∷ ts) (y ∷ ys) h = h.0.few
 few_at (suc n) (t ∷ ts) (y ∷ ys) h = few_at n ts ys h.1
 
--- what is held, with the patches as contents, is what is wanted of the operands after the news
-patched_are : (ws : List Want) (ds : List Changes) (zs ys : List DataSet) → AllLeads ds zs ys → All (λ w. w.operand < length ds) ws → map (holding_of ys) ws ≡ patched (map (holding_of zs) ws) (planned ws (map (holding_of zs) ws) ds)
-patched_are [] ds zs ys h a = refl
-patched_are (w ∷ ws) ds zs ys h a =
+-- what is planned is what is wanted of the operands after the news
+planned_are : (ws : List Want) (ds : List Changes) (zs ys : List DataSet) → AllLeads ds zs ys → All (λ w. w.operand < length ds) ws → map (holding_of ys) ws ≡ planned ws (map (holding_of zs) ws) ds
+planned_are [] ds zs ys h a = refl
+planned_are (w ∷ ws) ds zs ys h a =
     let l = leads_at w.operand ds zs ys h (a 0 w (omega arith)) in
     let x = l.ends in
-    let r = patched_are ws ds zs ys h (λ k d e. a (suc k) d (omega arith)) in
+    let r = planned_are ws ds zs ys h (λ k d e. a (suc k) d (omega arith)) in
     (λ i. record { want = w; content = sym x i } ∷ r i)
 
 pub news_at : (news : List (Arc Delta Global)) (n : ℕ) (d : Arc Delta Global) → n < length news → arc_value (get_or news n d) ≡ news_of n (map arc_value news)
@@ -85,8 +84,8 @@ module _ (wants : List Want) (held : List Holding) (news : List (Arc Delta Globa
   pub plannable_at : CanPlan wants held (map arc_value news) → IsPlannable d h.content
   plannable_at can = subst (λ (t : Changes). IsPlannable t h.content) news_there (subst (λ (x : Holding). IsPlannable (news_of (get_or wants i w).operand (map arc_value news)) x.content) (sym is_h) (can i w h within))
 
-  pub planned_at : apply d h.content ≡ apply (news_of (get_or wants i w).operand (map arc_value news)) (get_or held i h).content
-  planned_at = ap (λ (t : Changes). apply t h.content) (sym news_there) ∙ ap (λ (x : Holding). apply (news_of (get_or wants i w).operand (map arc_value news)) x.content) is_h
+  pub planned_at : record h { content = apply d h.content } ≡ record (get_or held i h) { content = apply (news_of (get_or wants i w).operand (map arc_value news)) (get_or held i h).content }
+  planned_at = ap (λ (t : Changes). record h { content = apply t h.content }) (sym news_there) ∙ ap (λ (x : Holding). record x { content = apply (news_of (get_or wants i w).operand (map arc_value news)) x.content }) is_h
 
 -- ---- what a rule is asked, and what it answers
 
@@ -156,10 +155,10 @@ module _ (rule : Rule) (held : List Holding) (news : List Changes) (before : ℕ
       let few = fit.few in
       let wants : List Want = wanted_of rule in
       let below = wanted_below rule work.typed in
-      let sets : map (holding_of ys) wants ≡ patched held w.patches.items =
-      patched_are wants news zs ys work.leads (λ k e l. let b = below k e l in omega (arith, b, long))
-      ∙ ap (λ (hs : List Holding). patched hs (planned wants hs news)) work.holds.sets
-      ∙ ap (patched held) (sym patches) in
+      let sets : map (holding_of ys) wants ≡ w.patches.items =
+      planned_are wants news zs ys work.leads (λ k e l. let b = below k e l in omega (arith, b, long))
+      ∙ ap (λ (hs : List Holding). planned wants hs news) work.holds.sets
+      ∙ sym patches in
       let same = length-map wants (holding_of zs) in
       let many = ap length work.holds.sets in
       record {

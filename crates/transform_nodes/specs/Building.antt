@@ -9,7 +9,7 @@ use Rattle.checked_trees.specs.declared.tree.Source.{Source}
 use Rattle.checked_trees.specs.Expressions.{Expression, Applied, expression_of, expressions, renamed}
 use Rattle.checked_trees.specs.Scripts.{is_same, names_in}
 use Rattle.checked_trees.specs.Typing.{HasStructure}
-use Rattle.held_index.specs.Holdings.{Holding, FitsStructure, IsPlain}
+use Rattle.held_index.specs.Holdings.{Holding, FitsStructure}
 use Rattle.held_index.specs.declared.want.Want.{Want}
 use Rattle.transform_nodes.specs.Trees.{Plain, expression, forgotten, IsFit, StandsOn}
 
@@ -53,10 +53,9 @@ AllCanBuild sources trees = All (λ tree. CanBuild sources (expression_of tree))
 abbrev pub AreBuilt : List Source → List CheckedTree → List Plain → Type 0
 AreBuilt sources trees ps = AllZip (λ tree p. IsBuilt sources (expression_of tree) p) trees ps
 
--- a want is of an operand that there is, in the order of its keys, and names components of that
+-- a want is of an operand that there is, and names components of that
 pub record IsWanted (w : Want) (operands : List (List Component)) : Type 0 where
   pub below : w.operand < length operands
-  pub plain : IsPlain w
   pub fits : (operand : List Component) → FitsStructure w (slice_index_or operands w.operand operand)
 
 abbrev pub AreWanted : List Want → List (List Component) → Type 0

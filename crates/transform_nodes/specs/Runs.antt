@@ -19,7 +19,7 @@ use Rattle.held_index.specs.Holdings.{Holding}
 use Rattle.held_index.specs.declared.want.Want.{Want}
 use Rattle.transform_nodes.specs.Rules.{operator_of}
 use Rattle.transform_nodes.specs.Halts.{wrong_in}
-use Rattle.transform_nodes.specs.Trees.{Plain, Plains, plains_of, expression, all_expressions, counted, patched, Holds, StandsOn, AllStandOn, applied, all_applied, HasPatches, AllHavePatches}
+use Rattle.transform_nodes.specs.Trees.{Plain, Plains, plains_of, expression, all_expressions, counted, Holds, StandsOn, AllStandOn, applied, all_applied, HasPatches, AllHavePatches}
 use Rattle.transform_nodes.specs.declared.carry.Gathered.{Gathered}
 use Rattle.transform_nodes.specs.declared.carry.Ran.{Ran}
 use Rattle.transform_nodes.specs.declared.halt.Halt.{Halt}
@@ -38,11 +38,11 @@ AllLeads ds xs ys = ⊥
 
 -- ---- one operator
 
--- the contents of what is held after the news
-abbrev pub planned : List Want → List Holding → List Changes → List DataSet
+-- what is held after the news
+abbrev pub planned : List Want → List Holding → List Changes → List Holding
 planned [] hs news = []
 planned (w ∷ ws) [] news = []
-planned (w ∷ ws) (h ∷ hs) news = apply (news_of w.operand news) h.content ∷ planned ws hs news
+planned (w ∷ ws) (h ∷ hs) news = record h { content = apply (news_of w.operand news) h.content } ∷ planned ws hs news
 
 -- the news of each wanted operand begin at what is held of it, and leave few points
 pub record IsPlannable (d : Changes) (x : DataSet) : Type 0 where
@@ -65,7 +65,7 @@ pub record IsWorked (rule : Rule) (held : List Holding) (ys : List DataSet) (x :
   pub new : DataSet
   pub gives : meaning_of (operator_of rule) ys ≡ Made new
   pub leads : Leads (arc_value w.delta) x new
-  pub holds : Holds rule ys (patched held w.patches.items) w.points
+  pub holds : Holds rule ys w.patches.items w.points
   pub long : length w.patches.items ≡ length held
   pub few : w.points ≤ POINT_LIMIT
 

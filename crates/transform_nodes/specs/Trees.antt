@@ -1,6 +1,5 @@
 -- Trees of operators as plain data, and what they stand for.
 use Rattle.std.specs.Prelude.{◌≡◌, ℕ, suc, ◌<◌, ◌≤◌, List, [], ◌∷◌, map, length, min, Ok, Err, Result, ⊤}
-use Rattle.std.specs.List.{zip}
 use Rattle.std.specs.FinMap.{len}
 use Rattle.vtl_values.specs.declared.place.Place.{Place}
 use Rattle.data_model.specs.Outcomes.{Made}
@@ -20,7 +19,7 @@ mutual
   -- the number of a source; or an operator with its rule, place and operands, what is held of them and the points of its result, and what is pending of these two
   pub data Plain : Type 0 where
     Source : ℕ → Plain
-    Operates : Rule → Place → Plains → List Holding → ℕ → List DataSet → ℕ → Plain
+    Operates : Rule → Place → Plains → List Holding → ℕ → List Holding → ℕ → Plain
 
   pub data Plains : Type 0 where
     none : Plains
@@ -79,15 +78,11 @@ abbrev mutual
 abbrev pub counted : ℕ → ℕ
 counted points = min points 18446744073709551615
 
--- what was pending is the content of what is held
-abbrev pub patched : List Holding → List DataSet → List Holding
-patched held pending = map (λ p. record p.0 { content = p.1 }) (zip held pending)
-
 abbrev mutual
   -- the tree with what is pending put in place
   pub applied : Plain → Plain
   applied (Source n) = Source n
-  applied (Operates rule place ps held points pending pending_points) = Operates rule place (all_applied ps) (patched held pending) pending_points [] 0
+  applied (Operates rule place ps held points pending pending_points) = Operates rule place (all_applied ps) pending pending_points [] 0
 
   pub all_applied : Plains → Plains
   all_applied none = none

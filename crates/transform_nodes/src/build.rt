@@ -65,7 +65,7 @@ fn number_of(sources: &[Source], name: Source) -> Option<u64>
     None
 }
 
-/// Adds a name behind the sources, unless it is one of them.
+/// Adds a name after the sources, unless it is one of them.
 fn add_once(sources: &mut Vec<Source>, name: Source) -> Result<(), AllocError>
     ensures { OnOk result (sources.new.items ≡ (if is_among sources.old.items name then sources.old.items else sources.old.items ++ name ∷ [])) }
 {

@@ -2,7 +2,7 @@
 ghost use Rattle.std.specs.Prelude.{◌≡◌, [], map, length};
 ghost use Rattle.transform_nodes.specs.Nodes.{all_settled, settled_tree, AllCanSettle, CanSettle};
 ghost use Rattle.transform_nodes.specs.Settling.{own_settled, CanSettleOwn};
-ghost use Rattle.transform_nodes.specs.Trees.{patched, plain, plain_tree, plains_of};
+ghost use Rattle.transform_nodes.specs.Trees.{plain, plain_tree, plains_of};
 
 use crate::node::{Child, OpTree};
 use crate::work::Settle;
@@ -12,7 +12,7 @@ use std::mem;
 /// Puts the patches of held operands in place. It takes no memory.
 fn put_all(held: &mut Vec<Held>, pending: &mut Vec<Patch>)
     requires { length pending.old.items ≡ length held.old.items }
-    ensures held { held.new.items ≡ patched held.old.items pending.old.items }
+    ensures held { held.new.items ≡ pending.old.items }
     ensures pending { pending.new.items ≡ [] }
 {
     while let Some(patch) = pending.pop() {

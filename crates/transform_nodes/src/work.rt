@@ -166,6 +166,7 @@ impl Done {
         &self.parts
     }
 
+    /// All that came of the work.
     pub fn into_parts(self) -> DoneParts
         ensures { result ≡ self }
     {

@@ -5,8 +5,8 @@ use Rattle.held_index.specs.declared.want.Want.{Want}
 use Rattle.transform_nodes.specs.Building.{IsWanted}
 use Rattle.transform_nodes.proofs.build.nothing_held_of.Goals as goal
 
-pub empty-requires-clause-fits : goal.empty-requires-clause-fits
-empty-requires-clause-fits c =
+pub empty-requires : goal.empty-requires
+empty-requires c =
     let want = c.want-item.result in
     let operand = c.index-operands-want.result in
     let wanted = subst (λ (w : Want). IsWanted w c.args.operands.now) (sym c.want-item.is) (c.requires c.loop-want.want-index want c.loop-want-test.true) in

@@ -1,7 +1,7 @@
 use Rattle.std.proofs.Common.{◌++◌, ◌∷◌, [], map, take, sym, ◌∙◌, ap, arith, List}
 use Rattle.std.proofs.lemmas.List.{take_all}
 use Rattle.std.specs.Arc.{arc_value}
-use Rattle.point_sets.specs.DataSets.{DataSet}
+use Rattle.held_index.specs.Holdings.{Holding}
 use Rattle.transform_nodes.specs.Runs.{planned}
 use Rattle.transform_nodes.proofs.WorkLemmas.{planned_more, planned_at, plannable_at, length-planned}
 use Rattle.transform_nodes.proofs.operate.plan_all.Goals as goal
@@ -18,8 +18,8 @@ loop-i-preserved c =
     let ds = map arc_value c.args.news.now in
     let i = c.loop-i.i in
     c.in_ok-push.ensures.items
-    ∙ ap (λ (t : List DataSet). t ++ c.in_ok-patch.patch ∷ []) c.loop-i.invariant
-    ∙ ap (λ (x : DataSet). take i (planned ws hs ds) ++ x ∷ []) (c.in_ok-patch.ensures ∙ planned_at ws hs c.args.news.now i c.index-wants-i.result c.index-held-i.result c.index-news-want.result c.deref.result.now c.loop-i-test.true c.index-wants-i.is c.index-held-i.is c.index-news-want.is c.deref.ensures c.requires.below)
+    ∙ ap (λ (t : List Holding). t ++ c.in_ok-patch.patch ∷ []) c.loop-i.invariant
+    ∙ ap (λ (x : Holding). take i (planned ws hs ds) ++ x ∷ []) (c.in_ok-patch.ensures ∙ planned_at ws hs c.args.news.now i c.index-wants-i.result c.index-held-i.result c.index-news-want.result c.deref.result.now c.loop-i-test.true c.index-wants-i.is c.index-held-i.is c.index-news-want.is c.deref.ensures c.requires.below)
     ∙ sym (planned_more ws hs ds i c.index-wants-i.result c.index-held-i.result c.requires.held c.loop-i-test.true)
 
 pub returns : goal.returns

@@ -1,4 +1,4 @@
-use Rattle.std.proofs.Common.{◌≡◌, ◌∙◌, ap, get_or, length, sym, arith}
+use Rattle.std.proofs.Common.{◌≡◌, length, sym, arith}
 use Rattle.std.proofs.lemmas.List.{take_all}
 use Rattle.transform_nodes.proofs.SettleLemmas.{put-none, put-more}
 use Rattle.transform_nodes.proofs.settle.put_all.Goals as goal
@@ -12,7 +12,5 @@ pub loop-patch-preserved : goal.loop-patch-preserved
 loop-patch-preserved c =
     let first = c.pop.new.self.items in
     let at : c.len-at.result ≡ length first = let count = c.len-at.ensures in omega (arith, count, c.pop.new.self.ok.0) in
-    let operand = c.index_mut-operand.result.now in
-    let more = put-more c.args.held.now.items c.loop-patch.held.items c.args.pending.now.items c.loop-patch.pending.items first c.in-Some.patch operand c.requires c.in-Some.ensures.items c.loop-patch.invariant.left c.loop-patch.invariant.put
-    (c.index_mut-operand.ensures.value ∙ ap (λ n. get_or c.loop-patch.held.items n operand) at) in
+    let more = put-more c.args.held.now.items c.loop-patch.held.items c.args.pending.now.items c.loop-patch.pending.items first c.in-Some.patch c.requires c.in-Some.ensures.items c.loop-patch.invariant.left c.loop-patch.invariant.put in
     rw (at, c.apply.ensures) record { few = more.few; left = more.left; put = more.put }

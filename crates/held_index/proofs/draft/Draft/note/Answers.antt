@@ -1,23 +1,13 @@
-use Rattle.std.proofs.Common.{◌≡◌, false, sym, ◌∙◌, ap, refl, subst}
-use Rattle.std.specs.Option.{option_eq}
+use Rattle.std.proofs.Common.{◌∙◌, ap, refl}
+use Rattle.data_model.specs.Drafts.{note_value}
 use Rattle.point_sets.specs.Changes.{values_eq, values_of}
-use Rattle.held_index.specs.Drafts.{of_noted, AreNoted}
-use Rattle.held_index.proofs.Notes.{AreNoted-more, of_noted-more, same_draft, always_on_err}
+use Rattle.held_index.proofs.Notes.{on_ok, on_err, same_draft, note_value-changes}
 use Rattle.held_index.proofs.draft.Draft.note.Goals as goal
-
-pub invariant_of-self : goal.invariant_of-self
-invariant_of-self c = subst AreNoted (sym c.in_err-insert.ensures.err) c.self.invariant
-
-pub invariant_of-self-2 : goal.invariant_of-self-2
-invariant_of-self-2 c = subst AreNoted (sym c.in_ok-insert.ensures.entries) (AreNoted-more c.self.inside.changes.entries c.args.change.key _ c.requires.old c.requires.new (sym c.have_same_values.ensures ∙ c.if-have_same_values.false) c.self.invariant)
-
-pub returns-then-have_same_values-clause-ok : goal.returns-then-have_same_values-clause-ok
-returns-then-have_same_values-clause-ok c = rw (sym c.have_same_values.ensures ∙ c.if-have_same_values.true) refl
-
-pub returns-in_err-insert-clause-err : goal.returns-in_err-insert-clause-err
-returns-in_err-insert-clause-err c = always_on_err c.from_residual.result (same_draft _ _ _ _ (ap of_noted c.in_err-insert.ensures.err) refl ∙ c.self.view_is)
 
 pub returns-clause-ok : goal.returns-clause-ok
 returns-clause-ok c =
-    let apart : option_eq values_eq (values_of c.args.change.old) (values_of c.args.change.new) ≡ false = sym c.have_same_values.ensures ∙ c.if-have_same_values.false in
-    rw (apart, ← c.self.view_is) (same_draft _ _ _ _ (ap of_noted c.in_ok-insert.ensures.entries ∙ of_noted-more c.self.inside.changes.entries c.args.change.key _) refl)
+    let change = c.args.change in
+    on_ok c.note.result (λ noted. same_draft _ _ _ _ noted refl ∙ note_value-changes c.self.inside.changes c.self.inside.beyond change.key (values_of change.old) (values_of change.new) ∙ ap (note_value values_eq change.key (values_of change.old) (values_of change.new)) c.self.view_is) c.note.ensures.ok
+
+pub returns-clause-err : goal.returns-clause-err
+returns-clause-err c = on_err c.note.result (λ same. same_draft _ _ _ _ same refl ∙ c.self.view_is) c.note.ensures.err

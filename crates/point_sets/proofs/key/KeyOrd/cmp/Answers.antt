@@ -4,4 +4,4 @@ use Rattle.point_sets.proofs.Keys.{slice_cmp-same}
 use Rattle.point_sets.proofs.key.KeyOrd.cmp.Goals as goal
 
 pub returns : goal.returns
-returns c = rw (← c.self.view_is, ← c.other.view_is, ← c.as_slice.ensures.value, ← c.as_slice-2.ensures.value) (c.cmp.ensures ∙ slice_cmp-same cmp-is c.as_slice.result.now c.as_slice-2.result.now)
+returns c = rw (← c.values.ensures, ← c.values-2.ensures) (c.cmp.ensures ∙ slice_cmp-same cmp-is c.values.result.now c.values-2.result.now)

@@ -1,6 +1,5 @@
-use Rattle.std.proofs.Common.{◌∙◌}
 use Rattle.point_sets.proofs.Points.{len-of_points}
 use Rattle.point_sets.proofs.point_set.PointSet.count.Goals as goal
 
 pub returns : goal.returns
-returns c = rw (← c.self.view_is, len-of_points c.self.inside.points.items c.self.invariant) (c.len.ensures ∙ c.self.inside.points.ok.0)
+returns c = rw (← c.self.view_is, len-of_points c.self.inside.points c.self.invariant) c.len.ensures

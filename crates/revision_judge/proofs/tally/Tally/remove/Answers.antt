@@ -11,4 +11,4 @@ pub returns : goal.returns
 returns c = λ p h.
     let added = c.in_ok-see.ensures.ok in
     remove-granted c.args.set.now c.args.self.now p h c.args.key c.in_ok-old.old added.absent c.in_ok-old.ensures.value
-    (record { keys = c.see.new.keys; points = c.args.self.now.points - 1; draft = c.note.new.self }) added.added (c.is_none.ensures ∙ ap not c.if-is_none.false) refl c.in_ok-note.ensures.ok
+    (record { keys = c.see.new.keys; points = c.args.self.now.points - 1; notes = c.note.new.self }) added.added (c.is_none.ensures ∙ ap not c.if-is_none.false) refl c.in_ok-note.ensures.ok
