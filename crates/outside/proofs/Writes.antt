@@ -1,6 +1,6 @@
 -- How a run of writes goes on.
-use Rattle.std.proofs.Common.{◌≡◌, ◌++◌, ◌∙◌, ℕ, List, [], ◌∷◌, Option, Some, None, Result, Ok, Err, IsOk, refl, sym, ap, arith, ◌≤◌}
-use Rattle.std.proofs.lemmas.List.{append_assoc, append-nil}
+use Rattle.std.proofs.Common.{◌≡◌, ◌++◌, ◌+◌, ◌∙◌, ℕ, length, List, [], Option, Some, None, Result, Ok, Err, IsOk, refl, sym, ap, arith, ◌≤◌}
+use Rattle.std.proofs.lemmas.List.{append_assoc, append-nil, length-append}
 use Rattle.std.specs.Io.KnownBytes.{append_known}
 use Rattle.outside.specs.declared.sink.SinkStop.{SinkStop}
 use Rattle.outside.specs.Counts.{Rose}
@@ -52,19 +52,23 @@ pub wrote_then : {a b c : SinkView} {x y : List ℕ} {r : Result (Unit {0}) Sink
 wrote_then {a} {b} {c} {x} {y} {r} {u} first second = record {
   later = omega (arith, first.later, second.later);
   failed = λ failed. let rose : Rose b.faults c.faults = second.failed failed in omega (arith, first.later, rose);
+  memory = λ memory. let left : a.room ≤ b.room + length x = first.room refl in omega (arith, length-append x y, second.memory memory, left);
+  room = λ ok. let left : a.room ≤ b.room + length x = first.room refl in omega (arith, length-append x y, second.room ok, left);
   took = took_then (took_as {V = IsOk {T = Unit {0}} {E = SinkStop} (Ok u)} (λ w. refl) first.took) second.took;
 }
 
 pub wrote_cut : {a b : SinkView} {x : List ℕ} {e : SinkStop} (y : List ℕ) → Wrote a b (Err e) x → Wrote a b (Err e) (x ++ y)
-wrote_cut y first = record {
+wrote_cut {x = x} y first = record {
   later = first.later;
   failed = first.failed;
+  memory = λ memory. omega (arith, length-append x y, first.memory memory);
+  room = λ no. grind arith;
   took = took_as {V = ⊥} (λ no. grind arith) (took_cut y first.took);
 }
 
 -- nothing is written yet
 pub wrote_none : (a : SinkView) → Wrote a a (Ok tt) []
-wrote_none a = record { later = omega arith; failed = λ no. grind arith; took = took_all (append_known-nil a.taken) }
+wrote_none a = record { later = omega arith; failed = λ no. grind arith; memory = λ no. grind arith; room = λ ok. omega arith; took = took_all (append_known-nil a.taken) }
 
 -- a run of two parts is a run of both
 pub extends_then : {a b c : SinkView} {r s t : Result (Unit {0}) SinkStop} (x y : List ℕ) → Extends a b r s x → Extends b c s t y → Extends a c r t (x ++ y)

@@ -9,4 +9,4 @@ abbrev pub folder_view : {R F D : Type 0} → FolderShelf R F D → ShelfView
 folder_view s = record { files = None; faults = s.faults; last = s.last; kept = s.kept }
 
 abbrev pub stdout_view : {W : Type 0} → StdoutSink W → SinkView
-stdout_view s = record { taken = None; faults = s.faults }
+stdout_view s = record { taken = None; room = 0; faults = s.faults }

@@ -33,3 +33,10 @@ kept_of (Err (TooLong n)) = n
 kept_of (Err Failed) = 0
 kept_of (Err Memory) = 0
 kept_of (Ok bytes) = 0
+
+-- the name of the last failed read, after a read of this name
+abbrev pub last_of : {A : Type 0} → Result A ShelfStop → List ℕ → List ℕ → List ℕ
+last_of (Err Failed) name last = name
+last_of (Err (TooLong n)) name last = last
+last_of (Err Memory) name last = last
+last_of (Ok bytes) name last = last

@@ -1,7 +1,9 @@
 // Shelves and sinks in memory: they tell what they hold, and fail at the calls that they are told.
-ghost use Rattle.std.specs.Prelude.{◌≡◌, Some, IfSome, IfNone};
-ghost use Rattle.std.specs.Option.{option_copied};
-ghost use Rattle.outside.specs.Memory.{bytes_at};
+ghost use Rattle.std.specs.Prelude.{◌≡◌, ◌<◌, ◌≤◌, ◌⊎◌, ◌↔◌, ℕ, List, Some, None, length, IsTrue, IsNone, IsOk, IfOk, IfErr, IfSome, OnErr, IsErrOf, IsErr};
+ghost use Rattle.outside.specs.Counts.{Rose};
+ghost use Rattle.outside.specs.Memory.{bytes_at, counted, IsToFail, IsFailingRead, faults_after_read, faults_after_write, shelf_view, sink_view, sure_view};
+ghost use Rattle.outside.specs.Shelves.{Told, IfTooLong, kept_of, last_of};
+ghost use Rattle.outside.specs.Sinks.{Wrote};
 
 use crate::shelf::{Shelf, ShelfStop};
 use crate::sink::{Sink, SinkStop};
@@ -20,9 +22,17 @@ pub struct MemoryShelf {
     pub kept: u64,
 }
 
+// Whether the call with this number is one of those that fail.
+fn is_to_fail(fail_at: &Vec<u64>, call: u64) -> bool
+    ensures { IsTrue result ↔ IsToFail fail_at.now call }
+{
+    fail_at.contains(&call)
+}
+
 // The bytes under a name, unless the read is to fail.
 fn found<'a>(files: &'a BTreeMap<Word, Vec<u8>>, fails: bool, name: &Word) -> Option<&'a Vec<u8>>
-    ensures { IfSome result (λ bytes. bytes_at files.now name.now ≡ Some bytes.now.items) }
+    ensures some { IfSome result (λ bytes. bytes_at files.now name.now ≡ Some bytes.now.items) }
+    ensures none { IsNone result ↔ (IsTrue fails ⊎ (bytes_at files.now name.now ≡ None)) }
 {
     if fails {
         return None;
@@ -31,18 +41,37 @@ fn found<'a>(files: &'a BTreeMap<Word, Vec<u8>>, fails: bool, name: &Word) -> Op
 }
 
 impl Shelf for MemoryShelf {
-    ghost use Rattle.outside.specs.Memory.{shelf_view};
-
     ghost view = { shelf_view };
 
-    fn read(&mut self, alloc: Global, name: &Word, limit: u64) -> Result<Vec<u8>, ShelfStop> {
+    fn read(&mut self, alloc: Global, name: &Word, limit: u64) -> Result<Vec<u8>, ShelfStop>
+        // The clauses of every shelf.
+        ensures files { (shelf_view self.new).files ≡ (shelf_view self.old).files }
+        ensures later { self.old.faults ≤ self.new.faults }
+        ensures within { IfOk result (λ bytes. length bytes.items ≤ limit) }
+        ensures bytes { IfOk result (λ bytes. Told (shelf_view self.old).files
+            (λ files. files name.now ≡ Some bytes.items)) }
+        ensures rose { IsErrOf result ShelfStop.Failed → Rose self.old.faults self.new.faults }
+        ensures last { IsErrOf result ShelfStop.Failed → self.new.last ≡ name.now }
+        ensures last_kept { self.new.last ≡ last_of result name.now self.old.last }
+        ensures kept { self.new.kept ≡ kept_of result }
+        ensures long { IfErr result (IfTooLong (λ n. limit < n)) }
+        ensures told_long { IfErr result (IfTooLong (λ n. Told (shelf_view self.old).files
+            (λ files. (bytes : List ℕ) × (files name.now ≡ Some bytes) × (length bytes ≡ n)))) }
+
+        // It fails exactly at its numbered calls and where there is nothing under the name, each time counted once.
+        ensures calls { self.new.calls ≡ counted self.old.calls }
+        ensures numbers { self.new.fail_at ≡ self.old.fail_at }
+        ensures failed { IsErrOf result ShelfStop.Failed → IsFailingRead self.old name.now }
+        ensures fails { IsFailingRead self.old name.now → IsErrOf result ShelfStop.Failed ⊎ IsErrOf result ShelfStop.Memory }
+        ensures faults { self.new.faults ≡ faults_after_read result self.old.faults }
+    {
+        let call = self.calls;
+        self.calls = self.calls.saturating_add(1);
         self.kept = 0;
         let Ok(last) = name.copy() else {
             return Err(ShelfStop::Memory);
         };
-        let call = self.calls;
-        self.calls = self.calls.saturating_add(1);
-        match found(&self.files, self.fail_at.contains(&call), name) {
+        match found(&self.files, is_to_fail(&self.fail_at, call), name) {
             Some(bytes) => {
                 let length = bytes.len() as u64;
                 if length > limit {
@@ -73,14 +102,21 @@ pub struct MemorySink {
 }
 
 impl Sink for MemorySink {
-    ghost use Rattle.outside.specs.Memory.{sink_view};
-
     ghost view = { sink_view };
 
-    fn write(&mut self, bytes: &[u8]) -> Result<(), SinkStop> {
+    fn write(&mut self, bytes: &[u8]) -> Result<(), SinkStop>
+        ensures wrote { Wrote (sink_view self.old) (sink_view self.new) result bytes.now }
+
+        // It fails exactly at its numbered calls, each counted once, and takes nothing where it stops.
+        ensures calls { self.new.calls ≡ counted self.old.calls }
+        ensures numbers { self.new.fail_at ≡ self.old.fail_at }
+        ensures failed { IsErrOf result SinkStop.Failed ↔ IsToFail self.old.fail_at self.old.calls }
+        ensures faults { self.new.faults ≡ faults_after_write result self.old.faults }
+        ensures nothing { OnErr result (self.new.taken.items ≡ self.old.taken.items) }
+    {
         let call = self.calls;
         self.calls = self.calls.saturating_add(1);
-        if self.fail_at.contains(&call) {
+        if is_to_fail(&self.fail_at, call) {
             self.faults = self.faults.saturating_add(1);
             return Err(SinkStop::Failed);
         }
@@ -98,8 +134,6 @@ pub struct SureSink {
 }
 
 impl Sink for SureSink {
-    ghost use Rattle.outside.specs.Memory.{sure_view};
-
     ghost view = { sure_view };
 
     fn write(&mut self, bytes: &[u8]) -> Result<(), SinkStop> {
@@ -107,63 +141,5 @@ impl Sink for SureSink {
             Ok(()) => Ok(()),
             Err(_) => Err(SinkStop::Memory),
         }
-    }
-}
-
-#[cfg(test)]
-mod tests {
-    use super::*;
-    use crate::sink::put;
-    use std::test::Fail;
-
-    #[test]
-    fn shelf_tells_or_fails(rt: HostRuntime) -> Result<(), Fail> {
-        let alloc = rt.alloc();
-        let (a, b) = (Word::from_str(alloc, "a")?, Word::from_str(alloc, "b")?);
-        let mut files = BTreeMap::new(alloc);
-        files.insert(a.copy()?, b"three".to_vec(alloc)?)?;
-        let mut shelf = MemoryShelf {
-            files,
-            calls: 0,
-            fail_at: vec![in alloc; 3]?,
-            faults: 0,
-            last: Word::from_str(alloc, "")?,
-            kept: 0,
-        };
-        assert_eq!(rt; shelf.read(alloc, &a, 5)?.as_slice(), b"three".as_slice());
-        assert_eq!(rt; shelf.read(alloc, &a, 4).err(), Some(ShelfStop::TooLong(5)));
-        assert_eq!(rt; (shelf.kept, shelf.faults), (5, 0));
-        assert_eq!(rt; shelf.read(alloc, &b, 4).err(), Some(ShelfStop::Failed));
-        assert_eq!(rt;
-            (shelf.kept, shelf.faults, shelf.last.as_str()),
-            (0, 1, "b")
-        );
-        assert_eq!(rt; shelf.read(alloc, &a, 5).err(), Some(ShelfStop::Failed));
-        assert_eq!(rt; (shelf.faults, shelf.last.as_str()), (2, "a"));
-        Ok(())
-    }
-
-    #[test]
-    fn sinks_take_or_fail(rt: HostRuntime) -> Result<(), Fail> {
-        let alloc = rt.alloc();
-        let mut sink = MemorySink {
-            taken: Vec::new(alloc),
-            calls: 0,
-            fail_at: vec![in alloc; 1]?,
-            faults: 0,
-        };
-        let so_far = put(&mut sink, Ok(()), b"one ");
-        let so_far = put(&mut sink, so_far, b"two ");
-        assert_eq!(rt; put(&mut sink, so_far, b"three"), Err(SinkStop::Failed));
-        assert_eq!(rt;
-            (sink.taken.as_slice(), sink.calls, sink.faults),
-            (b"one ".as_slice(), 2, 1)
-        );
-        let mut sure = SureSink {
-            taken: Vec::new(alloc),
-        };
-        sure.write(b"all of it")?;
-        assert_eq!(rt; sure.taken.as_slice(), b"all of it".as_slice());
-        Ok(())
     }
 }

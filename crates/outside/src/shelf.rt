@@ -1,6 +1,6 @@
 // Shelves.
 ghost use Rattle.std.specs.Prelude.{◌≡◌, ◌<◌, ◌≤◌, ℕ, List, length, Some, IfOk, IfErr, OnErr, IsErrOf};
-ghost use Rattle.outside.specs.Shelves.{ShelfView, Told, IfTooLong, kept_of};
+ghost use Rattle.outside.specs.Shelves.{ShelfView, Told, IfTooLong, kept_of, last_of};
 ghost use Rattle.outside.specs.Counts.{Rose};
 
 use std::alloc::Global;
@@ -33,9 +33,10 @@ pub trait Shelf {
         ensures bytes { IfOk result (λ bytes. Told (view self.old).files
             (λ files. files name.now ≡ Some bytes.items)) }
 
-        // A fault is counted, and the name is kept.
+        // A fault is counted, and its name is kept until the next one.
         ensures rose { IsErrOf result ShelfStop.Failed → Rose (view self.old).faults (view self.new).faults }
         ensures last { IsErrOf result ShelfStop.Failed → (view self.new).last ≡ name.now }
+        ensures last_kept { (view self.new).last ≡ last_of result name.now (view self.old).last }
 
         // Too long is told with the number of bytes, which is above the limit and, where told, theirs.
         ensures kept { (view self.new).kept ≡ kept_of result }

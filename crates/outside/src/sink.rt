@@ -21,7 +21,7 @@ pub trait Sink {
         ensures { Wrote (view self.old) (view self.new) result bytes.now };
 }
 
-/// Writes a piece behind what was written so far, unless that has stopped already.
+/// Writes a piece after what was written so far, unless that has stopped already.
 pub fn put<K: Sink>(out: &mut K, so_far: Result<(), SinkStop>, piece: &[u8]) -> Result<(), SinkStop>
     ensures { Extends (K.view out.old) (K.view out.new) so_far result piece.now }
 {

@@ -32,7 +32,7 @@ row_text-with_flexible cfg x [] = rw (is_blank-with_flexible cfg x [])
 row_text-with_flexible cfg x (field ∷ rest) =
     rw (is_blank-with_flexible cfg x (field ∷ rest), fields_text-with_flexible cfg x rest, escaped-with_flexible cfg x field)
 
--- what stands behind known bytes is known
+-- what stands after known bytes is known
 pub known_after : (old new : Option (List ℕ)) (text more : List ℕ) → old ≡ Some text → Appends old new more → new ≡ Some (text ++ more)
 known_after None new text more e f = cc
 known_after (Some xs) None text more e f = absurd f

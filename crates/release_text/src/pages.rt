@@ -13,7 +13,7 @@ use std::marker::Model;
 use std::sync::Arc;
 use vtl_values::{Structure, Word};
 
-// Writes the line of the name and the table behind the text.
+// Writes the line of the name and the table after the text.
 fn push_page(
     alloc: Global,
     text: &mut Vec<u8>,
@@ -32,7 +32,7 @@ fn push_page(
 }
 
 // A data set with its name, its structure and the text that is made of them.
-#[derive(Debug, Drop)]
+#[derive(Drop)]
 struct Held {
     name: Word,
     structure: Structure,
@@ -42,7 +42,7 @@ struct Held {
 
 /// The published data set of a statement, with its text held whole. Contracts see the name, the components and the set
 /// of points. Copies share what is held, so they are cheap, and the text is written without memory.
-#[derive(Debug, Drop)]
+#[derive(Drop)]
 pub struct Pages {
     held: Arc<Held>,
 }
@@ -132,8 +132,8 @@ impl Pages {
         })
     }
 
-    /// Writes the line `[NAME]` and the table behind what was written so far, unless that has stopped already. It takes
-    /// no memory but what the sink takes. At a stop a prefix of the text is written.
+    /// Writes the line `[NAME]` and the table after what was written so far, unless that has stopped already. It wants
+    /// memory only where the sink does. At a stop a prefix of the text is written.
     pub fn write_to<K: Sink>(
         &self,
         out: &mut K,

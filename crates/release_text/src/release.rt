@@ -11,7 +11,7 @@ use std::alloc::{AllocError, Global};
 
 /// A numbered release: the prefix of accepted revisions that it stands on, and the pages of the persistent statements
 /// in the order of the script.
-#[derive(Debug, Drop)]
+#[derive(Drop)]
 pub struct Release {
     pub number: u64,
     pub prefix: u64,
@@ -30,8 +30,8 @@ impl Release {
         })
     }
 
-    /// Writes the line `release NUMBER prefix PREFIX` and the pages behind what was written so far, unless that has
-    /// stopped already. It takes no memory but what the sink takes. At a stop a prefix of the text is written.
+    /// Writes the line `release NUMBER prefix PREFIX` and the pages after what was written so far, unless that has
+    /// stopped already. It wants memory only where the sink does. At a stop a prefix of the text is written.
     pub fn write_to<K: Sink>(
         &self,
         out: &mut K,

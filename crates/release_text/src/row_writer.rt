@@ -26,7 +26,7 @@ impl RowWriter {
         }
     }
 
-    /// Puts a text behind those of the next row.
+    /// Puts a text after those of the next row.
     pub(crate) fn push(&mut self, text: &Word) -> Result<(), AllocError>
         ensures { (written : List ℕ) → (texts : List (List ℕ)) → HasWritten self.old written texts
             → OnOk result (HasWritten self.new written (texts ++ text.now ∷ [])) }
@@ -34,7 +34,7 @@ impl RowWriter {
         self.row.push_field(text.as_str().as_bytes())
     }
 
-    /// Puts the texts of the values behind those of the next row.
+    /// Puts the texts of the values after those of the next row.
     pub(crate) fn push_values(&mut self, alloc: Global, values: &[Value]) -> Result<(), AllocError>
         ensures { (written : List ℕ) → (texts : List (List ℕ)) → HasWritten self.old written texts
             → OnOk result (HasWritten self.new written (texts ++ map text_of values.now)) }

@@ -42,9 +42,10 @@ pub fn rows_text(
 ) -> Result<Vec<u8>, AllocError>
     ensures { IfOk result (λ text. text.items ≡ table structure.now set.now) }
 {
+    let points = set.points()?;
     let mut writer = RowWriter::new(alloc);
     write_header(&mut writer, structure)?;
-    write_points(alloc, &mut writer, set.points())?;
+    write_points(alloc, &mut writer, points.as_slice())?;
     writer.into_text()
 }
 

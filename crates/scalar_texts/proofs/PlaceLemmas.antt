@@ -91,7 +91,7 @@ pub record IsFirstAfter (cs part before after : List ℕ) : Type 0 where
   pub splits : cs ≡ before ++ (part ++ after)
   pub first : (sooner rest : List ℕ) → cs ≡ sooner ++ (part ++ rest) → length before ≤ length sooner
 
--- the same behind the first character
+-- the same after the first character
 first_behind : (c : ℕ) (cs part before after : List ℕ) →
     IsFirstAfter (c ∷ cs) part (c ∷ before) after → IsFirstAfter cs part before after
 first_behind c cs part before after h = record {

@@ -12,7 +12,7 @@ module _ (old new : List ℕ) where
       if starts_with nat_eq (c ∷ cs) old then new ++ replaced_from (length old - 1) cs else c ∷ replaced_from 0 cs
 
   -- The law: a text without `old` stays. Else what comes before the first `old` stays, `new` comes in its place, and what
-  -- comes behind it goes on so.
+  -- comes after it goes on so.
   pub data Replaces : List ℕ → List ℕ → Type 0 where
     stays : (cs : List ℕ) → ((place : ℕ) → ¬ (StandsAt cs old place)) → Replaces cs cs
     replaces : (before after rest : List ℕ) →

@@ -14,8 +14,6 @@ mod letters;
 mod parts;
 mod patterns;
 mod places;
-#[cfg(test)]
-mod tests;
 
 pub use blanks::{ltrim, rtrim, trim};
 pub use letters::{lower, upper};

@@ -5,13 +5,16 @@ ghost use Rattle.scalar_texts.specs.Patterns.{anchored, is_pattern, matches_whol
 use regex::Regex;
 use std::alloc::{AllocError, Global};
 use std::marker::Model;
+use thiserror::Error;
 
 /// Why a pattern was not built.
-#[derive(Clone, Copy, Debug, PartialEq, Eq)]
+#[derive(Clone, Copy, Debug, Drop, PartialEq, Eq, Error)]
 pub enum PatternStop {
     /// The text is no pattern of the crate `regex`, or is nested deeper than that crate reads.
+    #[error("the text is no pattern")]
     BadPattern,
     /// Memory ran out, or the built pattern would pass the size limit of the crate `regex`.
+    #[error("out of memory")]
     Memory,
 }
 

@@ -30,7 +30,7 @@ component_of i j value = do
 abbrev pub has_name : List ℕ → Component → Bool
 has_name name component = pointwise nat_eq component.name name
 
--- a component stands behind those of its role and of the roles before it
+-- a component stands after those of its role and of the roles before it
 abbrev pub placed : Component → List Component → List Component
 placed component before = insert before (count_by (λ other. nat_le (place_of other.role) (place_of component.role)) before) component
 

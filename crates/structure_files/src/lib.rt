@@ -12,6 +12,3 @@ pub mod stop;
 
 pub use sets::read_structures;
 pub use stop::{Fault, Field, Path, Refusal, StructureStop};
-
-#[cfg(test)]
-mod tests;

@@ -4,18 +4,28 @@ ghost use Rattle.structure_files.specs.Paths.{path_text, field_text, set_text, c
 ghost use Rattle.structure_files.specs.declared.stop.StructureStop.TheVariants.{Memory};
 
 use std::alloc::{AllocError, AllocFailed, Global};
+use thiserror::Error;
 
 /// A fault of a structure file.
-#[derive(Clone, Copy, Debug, PartialEq, Eq)]
+#[derive(Clone, Copy, Debug, Drop, PartialEq, Eq, Error)]
 pub enum Fault {
+    #[error("the file is no JSON")]
     NotJson,
+    #[error("a field is missing")]
     MissingField,
+    #[error("there is no such role")]
     BadRole,
+    #[error("there is no such type")]
     BadType,
+    #[error("the name is used twice")]
     NameTwice,
+    #[error("the data set has no identifier")]
     NoIdentifier,
+    #[error("there are too many of them")]
     TooMany,
+    #[error("this is no name")]
     BadName,
+    #[error("this is no code list")]
     BadCodes,
 }
 
@@ -84,8 +94,8 @@ fn component_text(alloc: Global, set: u64, component: u64) -> Result<String, All
     ensures { IfOk result (λ text. string_bytes text ≡ component_text set component) }
 {
     let mut text = set_text(alloc, set)?;
-    let behind = format!(in alloc; ".components[{component}]")?;
-    text.push_str(behind.as_str())?;
+    let rest = format!(in alloc; ".components[{component}]")?;
+    text.push_str(rest.as_str())?;
     Ok(text)
 }
 
@@ -106,9 +116,11 @@ pub struct Refusal {
 }
 
 /// Why a structure file gives no structures.
-#[derive(Clone, Copy, Debug, PartialEq, Eq)]
+#[derive(Clone, Copy, Debug, Drop, PartialEq, Eq, Error)]
 pub enum StructureStop {
+    #[error("the structure file is refused")]
     Refused(Refusal),
+    #[error("out of memory")]
     Memory,
 }
 

@@ -1,4 +1,4 @@
--- A join keeps the rule, and the load behind it.
+-- A join keeps the rule, and the load after it.
 use Rattle.std.proofs.Common.{◌≡◌, ◌≢◌, ◌==◌, ℕ, ◌+◌, ◌≤◌, nat_lt, List, [], ◌++◌, length, set, get_or, true, false, true≢false, refl, sym, ap, subst, ◌∙◌, ⊎_elim, arith, Option, All, length-append}
 use Rattle.std.specs.Prelude.{slice_index}
 use Rattle.std.proofs.lemmas.Bool.{cases_Bool, cases_eq}

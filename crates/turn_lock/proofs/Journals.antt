@@ -30,7 +30,7 @@ module _ {E : Type 0} where
   pub starts_compared : (log a b : List E) → StartsWith log a → StartsWith log b → length a ≤ length b → StartsWith b a
   starts_compared log a b p q h = compared a b p.0 q.0 (sym p.1 ∙ q.1) h
 
-  -- the rest behind a beginning
+  -- the rest after a beginning
   pub rest_is : (log a : List E) (p : StartsWith log a) → drop (length a) log ≡ p.0
   rest_is log a p = front_rest log a p.0 p.1
 
@@ -85,7 +85,7 @@ module _ {E : Type 0} (caller_of : E → ℕ) where
   pub own_calls-append : (n : ℕ) (a b : List E) → own_calls caller_of n (a ++ b) ≡ own_calls caller_of n a ++ own_calls caller_of n b
   own_calls-append n a b = filter-append (λ e. caller_of e == n) a b
 
-  -- where each number has its entries in a beginning already, there is no entry behind it
+  -- where each number has its entries in a beginning already, there is no entry after it
   pub nothing_behind : (a r : List E) → AllByRecursion (λ e. caller_of e ≤ last_number) r → ((n : ℕ) → n ≤ last_number → own_calls caller_of n (a ++ r) ≡ own_calls caller_of n a) → r ≡ []
   nothing_behind a [] h same = refl
   nothing_behind a (x ∷ r) h same =

@@ -30,7 +30,7 @@ module _ {E G : Type 0} where
   abbrev pub Takes : List E → View E G → View E G → Type 0
   Takes J v w = (looks word : ℕ) × (v.looks < looks) × (word % 2 ≡ 0) × (w ≡ record v { looks = looks; word = word; holds = true; found = J })
 
-  -- the journal J was given back: the pass has seen it, and its own list has the entries behind the journal that it found
+  -- the journal J was given back: the pass has seen it, and its own list has the entries after the journal that it found
   abbrev pub given : List E → View E G → View E G
   given J v = record v { holds = false; seen = J; own = v.own ++ drop (length v.found) J }
 

@@ -13,6 +13,7 @@ use std::alloc::{AllocError, Global};
 use std::marker::{Brand, Model};
 use std::snapshot::Snapshot;
 use std::sync::Wait;
+use thiserror::Error;
 
 // A sleep compares 32 bits.
 const LOW: u64 = 0xffff_ffff;
@@ -27,13 +28,15 @@ type LockTable<S> = Table<
 
 /// The turn was taken: the call's one look found this word, which is odd. Halved and rounded down, it is the number of entries that were last
 /// given back.
-#[derive(Clone, Copy, Debug, PartialEq, Eq)]
+#[derive(Clone, Copy, Debug, Drop, PartialEq, Eq, Error)]
+#[error("the turn is taken, by the word {word}")]
 pub struct Busy {
     pub word: u64,
 }
 
 /// The pass owns only this many unused numbers: too few for a new pass and its share.
-#[derive(Clone, Copy, Debug, PartialEq, Eq)]
+#[derive(Clone, Copy, Debug, Drop, PartialEq, Eq, Error)]
+#[error("the pass owns only {left} unused numbers")]
 pub struct NoNumbers {
     pub left: u64,
 }

@@ -9,6 +9,3 @@ pub mod laws;
 pub mod ranks;
 
 pub use ranks::{Ranks, combine};
-
-#[cfg(test)]
-mod tests;

@@ -32,6 +32,7 @@ impl Ranks {
         Ranks { codes }
     }
 
+    /// The code list, lowest rank first. Its codes differ.
     pub fn codes(&self) -> &[Word]
         ensures codes { result.now ≡ self.now }
         ensures differ { AllPairs (λ a b. a ≢ b) self.now }

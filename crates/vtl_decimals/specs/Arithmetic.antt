@@ -70,7 +70,7 @@ abbrev pub remainder_of : ℤ → ℤ → ℤ
 remainder_of x (pos zero) = x
 remainder_of x y = x -ℤ y *ℤ floor_quotient x y
 
--- the place of a digit, in millionths: 1 for the sixth behind the point
+-- the place of a digit, in millionths: 1 for the sixth after the point
 abbrev pub unit_of : ℤ → ℕ
 unit_of digits = 10 ^ nat_abs (pos 6 -ℤ digits)
 

@@ -15,6 +15,3 @@ pub use places::{ceil, floor, modulo, round, trunc};
 pub use quotients::{div, mean, mul, ratio};
 pub use range::Range;
 pub use sums::{add, sub, total};
-
-#[cfg(test)]
-mod tests;

@@ -25,7 +25,7 @@ pub fn modulo(a: Decimal, b: Decimal) -> Decimal
     Decimal { millionths }
 }
 
-/// The number to so many digits behind the point (before it, where `digits` is negative), a half away from zero.
+/// The number to so many digits after the point (before it, where `digits` is negative), a half away from zero.
 pub fn round(a: Decimal, digits: i32) -> Decimal
     requires from { neg_ℤ (pos 15) ≤ℤ digits }
     requires to { digits ≤ℤ pos 6 }
@@ -37,7 +37,7 @@ pub fn round(a: Decimal, digits: i32) -> Decimal
     }
 }
 
-/// The number to so many digits behind the point (before it, where `digits` is negative), towards zero.
+/// The number to so many digits after the point (before it, where `digits` is negative), towards zero.
 pub fn trunc(a: Decimal, digits: i32) -> Decimal
     requires from { neg_ℤ (pos 15) ≤ℤ digits }
     requires to { digits ≤ℤ pos 6 }

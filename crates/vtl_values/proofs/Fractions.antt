@@ -73,7 +73,7 @@ length-fraction_digits (suc places) n = ⊎_elim
     (λ (none : n ≤ 0). (let is : n ≡ 0 = omega arith in rw is (omega arith)))
     (cases_lt 0 n)
 
--- zeros behind a number
+-- zeros after a number
 zeros_after : (m k n : ℕ) → k ≤ m → digits_value_after 10 n (take k (replicate m ZERO)) ≡ n * 10 ^ k
 zeros_after m zero n le = omega arith
 zeros_after zero (suc k) n le = absurd (omega arith)

@@ -39,7 +39,7 @@ signed_digits false (c ∷ cs) some digit =
     let no_minus : (c == MINUS) ≡ false = grind (arith, nat_tests) in
     record { sign = no_minus; digits = rw no_minus refl }
 
--- digits, and a point with decimals behind them, taken apart again
+-- digits, and a point with decimals after them, taken apart again
 position-pointed : (decimals : List ℕ) → position_or_len is_point (pointed decimals) ≡ 0
 position-pointed [] = refl
 position-pointed (d ∷ ds) = refl

@@ -45,7 +45,7 @@ integer_of text =
 abbrev pub is_point : ℕ → Bool
 is_point c = c == POINT
 
--- what stands before the point, and what stands behind it
+-- what stands before the point, and what stands after it
 abbrev pub whole_of : List ℕ → List ℕ
 whole_of text = before_first is_point (without_first MINUS text)
 
@@ -103,6 +103,6 @@ abbrev pub is_negative : ℤ → Bool
 is_negative (pos n) = false
 is_negative (negsuc n) = true
 
--- how millionths are written: no leading zeros, no `-0`, no trailing zeros behind the point
+-- how millionths are written: no leading zeros, no `-0`, no trailing zeros after the point
 abbrev pub number_text : ℤ → List ℕ
 number_text z = spelling (is_negative z) (decimal (nat_abs z / 10 ^ 6)) (fraction_digits 6 (nat_abs z % 10 ^ 6))

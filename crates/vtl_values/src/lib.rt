@@ -26,6 +26,3 @@ pub use structure::{Codes, Component, Structure};
 pub use structures::Structures;
 pub use value::Value;
 pub use word::Word;
-
-#[cfg(test)]
-mod tests;

@@ -118,7 +118,7 @@ fn read_number(text: &[u8]) -> Result<Decimal, BadText>
     })
 }
 
-/// A number as it is written: its sign, the digits before the point, and those behind it.
+/// A number as it is written: its sign, the digits before the point, and those after it.
 #[derive(Clone, Copy)]
 struct Written<'a> {
     negative: bool,

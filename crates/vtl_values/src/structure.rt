@@ -83,6 +83,7 @@ impl Model for Structure {
 impl Structure {
     ghost use Rattle.vtl_values.specs.Structures.{IsStructure};
 
+    /// A structure of components that stand by role and fit together.
     pub fn of(components: Vec<Component>) -> Structure
         requires { IsStructure components.items }
         ensures { result ≡ components.items }
@@ -92,6 +93,7 @@ impl Structure {
         }
     }
 
+    /// The components, in structure order.
     pub fn components(&self) -> &[Component]
         ensures value { result.now ≡ self.now }
         ensures structure { IsStructure self.now }

@@ -26,6 +26,7 @@ impl Model for Structures {
 impl Structures {
     ghost use Rattle.vtl_values.specs.Structures.{structure_of, number_of, HasNamesOnce};
 
+    /// No structures yet.
     pub fn new(alloc: Global) -> Structures
         ensures { result ≡ [] }
     {
@@ -34,6 +35,7 @@ impl Structures {
         }
     }
 
+    /// How many structures there are. Their names differ.
     pub fn len(&self) -> usize
         ensures len { result ≡ length self.now }
         ensures names_once { HasNamesOnce self.now }
@@ -60,6 +62,7 @@ impl Structures {
         ensures value { option_map (λ p. (p.0.now, p.1.now)) result ≡ slice_get self.now n }
         ensures names_once { HasNamesOnce self.now }
     {
+        // Its clause tells that the names differ.
         let _ = self.len();
         self.entries.get_index(n)
     }

@@ -29,6 +29,7 @@ impl From<String> for Word {
 }
 
 impl Word {
+    /// The characters of a text, or want of memory.
     pub fn from_str(alloc: Global, text: &str) -> Result<Word, AllocError>
         ensures { IfOk result (λ word. word ≡ chars text.now) }
     {
@@ -37,6 +38,7 @@ impl Word {
         })
     }
 
+    /// The text as UTF-8.
     pub fn as_str(&self) -> &str
         ensures chars { chars result.now ≡ self.now }
         ensures bytes { result.now ≡ encode_utf8_all self.now }

@@ -1,4 +1,4 @@
--- Where the run has not ended, the piece goes behind it.
+-- Where the run has not ended, the piece goes after it.
 use Rattle.std.proofs.Common.{subst}
 use Rattle.outside.proofs.Writes.{wrote_then}
 use Rattle.outside.specs.Sinks.{Wrote}

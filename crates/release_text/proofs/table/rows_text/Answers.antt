@@ -5,4 +5,4 @@ pub returns : goal.returns
 unfolding table
 returns c =
     let after = c.into_text.ensures _ _ (c.in_ok-write_points.ensures _ (c.in_ok-write_header.ensures _ c.new-writer.ensures)) in
-    rw c.points.ensures at after
+    rw (c.as_slice.ensures.value, c.in_ok-points.ensures) at after
