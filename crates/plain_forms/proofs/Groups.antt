@@ -56,7 +56,7 @@ read_line lines at end blocks d h e =
       found = ap (λ g. all_of block_of g.blocks) p ∙ h.found;
     }
 
--- a line that starts a block of the lines behind it
+-- a line that starts a block of the lines after it
 starts_here : (lines : List (List ℕ)) (at end : ℕ) (blocks : List Block) (d : List ℕ) → IsReadFrom lines (at + 1) end blocks → starts_block (get_or lines at d) ≡ true → grouped (drop at lines) ≡ record { before = []; blocks = take (end - at) (drop at lines) ∷ (grouped (drop (at + 1) lines)).blocks }
 starts_here lines at end blocks d h e =
     let line : List ℕ = get_or lines at d in

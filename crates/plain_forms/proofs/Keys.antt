@@ -32,7 +32,7 @@ spoilt true b d e h k = refl
 spoilt false true d e h k = refl
 spoilt false false d e h k = k h
 
--- keys of which one stands twice stay so with more behind them
+-- keys of which one stands twice stay so with more after them
 pub all_differ-false : (keys more : List (List ℕ)) → all_differ keys ≡ false → all_differ (keys ++ more) ≡ false
 all_differ-false [] more h = absurd (true≢false h)
 all_differ-false (key ∷ keys) more h =

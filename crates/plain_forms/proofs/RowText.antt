@@ -74,7 +74,7 @@ map_some : {X Y : Type 0} (f : X → Y) (o : Option X) (y : Y) → option_map f 
 map_some f None y h = cc
 map_some f (Some x) y h = (x, refl, cc)
 
--- where something stands behind the first comma, there is one
+-- where something stands after the first comma, there is one
 joined : (text : List ℕ) → 0 < length (after_first is_comma text) → text ≡ before_first is_comma text ++ COMMA ∷ after_first is_comma text
 joined text some =
     let n = length-drop (position_or_len is_comma text + 1) text in

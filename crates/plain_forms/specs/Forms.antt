@@ -6,6 +6,6 @@ abbrev pub STRUCTURES : List ℕ
 STRUCTURES =
     codes "{\"datasets\":[{\"name\":\"A\",\"components\":[{\"name\":\"Id\",\"role\":\"identifier\",\"type\":\"string\"},{\"name\":\"Me\",\"role\":\"measure\",\"type\":\"number\"}]},{\"name\":\"B\",\"components\":[{\"name\":\"Id\",\"role\":\"identifier\",\"type\":\"string\"},{\"name\":\"Me\",\"role\":\"measure\",\"type\":\"number\"}]}]}"
 
--- the bytes are this text, with or without one line end behind it
+-- the bytes are this text, with or without one line end after it
 abbrev pub IsForm : List ℕ → List ℕ → Type 0
 IsForm text bytes = (bytes ≡ text) ⊎ (bytes ≡ text ++ codes "\n")

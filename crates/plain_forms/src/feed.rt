@@ -42,7 +42,7 @@ fn read_lines(alloc: Global, bytes: &[u8]) -> Result<Vec<&[u8]>, PlainStop>
     }
 }
 
-// What stands before, between and behind the line feeds.
+// What stands before, between and after the line feeds.
 fn split_lines(alloc: Global, bytes: &[u8]) -> Result<Vec<&[u8]>, AllocError>
     ensures { IfOk result (λ parts. map (λ part. part.now) parts.items ≡ slice_split is_line_feed bytes.now) }
 {

@@ -6,7 +6,7 @@ const STRUCTURES_TEXT: &str =
     "{\"datasets\":[{\"name\":\"A\",\"components\":[{\"name\":\"Id\",\"role\":\"identifier\",\"type\":\"string\"},{\"name\":\"Me\",\"role\":\"measure\",\"type\":\"number\"}]},{\"name\":\"B\",\"components\":[{\"name\":\"Id\",\"role\":\"identifier\",\"type\":\"string\"},{\"name\":\"Me\",\"role\":\"measure\",\"type\":\"number\"}]}]}";
 
 /// Whether the bytes are the structure file of the data sets `A` and `B`, each with the identifier `Id` (string) and
-/// the measure `Me` (number), on one line, with or without one line end behind it.
+/// the measure `Me` (number), on one line, with or without one line end after it.
 pub fn is_structures(bytes: &[u8]) -> bool
     ensures { IsTrue result ↔ IsForm STRUCTURES bytes.now }
 {

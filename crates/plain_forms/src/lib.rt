@@ -18,6 +18,3 @@ pub use forms::is_structures;
 pub use laws::row_lines;
 pub use row::Row;
 pub use stop::PlainStop;
-
-#[cfg(test)]
-mod tests;

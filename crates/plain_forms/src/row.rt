@@ -53,7 +53,7 @@ fn read_row(alloc: Global, line: &[u8]) -> Result<Row, PlainStop>
     })
 }
 
-// What stands before the first comma, and what stands behind it.
+// What stands before the first comma, and what stands after it.
 fn split_comma(text: &[u8]) -> (&[u8], &[u8])
     ensures before { result.0.now ≡ before_first is_comma text.now }
     ensures after { result.1.now ≡ after_first is_comma text.now }

@@ -14,7 +14,7 @@ use Rattle.plain_scripts.specs.Sums.{sum_of}
 abbrev pub MOST_STATEMENTS : ℕ
 MOST_STATEMENTS = 256
 
--- these statements, and those of the trees behind them
+-- these statements, and those of the trees after them
 abbrev pub statements_of : List CheckedStatement → List Statement → Option (List CheckedStatement)
 statements_of before [] = Some before
 statements_of before (s ∷ ss) =

@@ -43,7 +43,7 @@ sum_tree place left right =
 abbrev pub sum_statement : List ℕ → Place → Source → Source → CheckedStatement
 sum_statement name place left right = record { name = name; persistent = true; tree = sum_tree place left right; structure = ID_AND_ME }
 
--- the statement of a sum behind statements of these names: its name is new, and its operands are known
+-- the statement of a sum after statements of these names: its name is new, and its operands are known
 abbrev pub statement_of : List (List ℕ) → Sum → Option CheckedStatement
 statement_of names sum =
     if is_new names sum.name

@@ -14,6 +14,3 @@ pub mod sum;
 
 pub use script::check_plain;
 pub use structures::plain_structures;
-
-#[cfg(test)]
-mod tests;

@@ -37,7 +37,7 @@ fn has_few(script: &Script) -> bool
     script.rulesets.len() == 0 && 0 < count && count <= MOST_STATEMENTS
 }
 
-// The statements of the trees, each read behind those before it.
+// The statements of the trees, each read after those before it.
 fn read_statements(
     alloc: Global,
     inputs: &Structures,

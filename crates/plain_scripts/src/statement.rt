@@ -14,7 +14,7 @@ use sqlite_items::Items;
 use std::alloc::{AllocError, Global};
 use vtl_values::{Place, Structures, Word};
 
-/// The statement of a sum behind these statements.
+/// The statement of a sum after these statements.
 pub(crate) fn read_statement(
     alloc: Global,
     inputs: &Structures,
@@ -41,7 +41,7 @@ pub(crate) fn read_statement(
     }))
 }
 
-/// What a name stands for behind these statements.
+/// What a name stands for after these statements.
 fn source_of(inputs: &Structures, before: &[CheckedStatement], name: &Word) -> Option<Source>
     requires { inputs.now ≡ STRUCTURES }
     ensures { result ≡ source_of (map (λ s. s.name) before.now) name.now }

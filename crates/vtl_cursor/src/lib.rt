@@ -15,6 +15,3 @@ pub mod stop;
 pub use cursor::{Cursor, Named, Number, Whole};
 pub use mark::{Mark, mark_in};
 pub use stop::{Kind, Limit, Stop};
-
-#[cfg(test)]
-mod tests;

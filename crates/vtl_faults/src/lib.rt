@@ -9,6 +9,3 @@ pub mod laws;
 pub mod words;
 
 pub use words::{ends_with_group, is_aggr, is_all, is_left_out};
-
-#[cfg(test)]
-mod tests;

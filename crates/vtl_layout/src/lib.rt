@@ -12,6 +12,3 @@ pub mod spell;
 pub mod write;
 
 pub use write::write_tokens;
-
-#[cfg(test)]
-mod tests;

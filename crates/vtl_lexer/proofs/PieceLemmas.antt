@@ -88,7 +88,7 @@ number_len-is text whole more is more_is =
     let behind : digits_len (drop (whole + 1) text) ≡ digits_len (drop (digits_len text + 1) text) = ap (λ w. digits_len (drop (w + 1) text)) is in
     omega (arith, behind)
 
--- the point and the digits behind it stand in the text
+-- the point and the digits after it stand in the text
 number_len-within : (text : List ℕ) → has_decimals text ≡ true → number_len text ≤ length text
 number_len-within text decimals =
     let two : (first_passes is_point_byte (drop (digits_len text) text) ≡ true) × (first_passes is_ascii_digit (drop (digits_len text + 1) text) ≡ true) = both (first_passes is_point_byte (drop (digits_len text) text)) (first_passes is_ascii_digit (drop (digits_len text + 1) text)) decimals in

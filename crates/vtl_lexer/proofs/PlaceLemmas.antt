@@ -13,7 +13,7 @@ place_after-append : (p : Place) (bs cs : List ℕ) → place_after p (bs ++ cs)
 place_after-append p [] cs = refl
 place_after-append p (b ∷ bs) cs = place_after-append (place_behind p b) bs cs
 
--- a place behind which so many line ends and bytes were passed
+-- a place after which so many line ends and bytes were passed
 abbrev counted : List ℕ → Place
 counted rs = place_at (1 + count_by is_line_end rs) (1 + position_or_len is_line_end rs)
 

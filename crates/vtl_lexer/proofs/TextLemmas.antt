@@ -12,14 +12,14 @@ pub joined-joined : (before more : List Token) (after : Lexed) → joined before
 joined-joined before more (Ok after) = ap Ok (sym (append_assoc before more after))
 joined-joined before more (Err fault) = refl
 
--- once the bytes are passed, the text begins behind them
+-- once the bytes are passed, the text begins after them
 pub tokens_from-passed : (n : ℕ) (place : Place) (text : List ℕ) → n ≤ length text → tokens_from n place text ≡ tokens_from 0 (place_after place (take n text)) (drop n text)
 tokens_from-passed zero place [] le = refl
 tokens_from-passed zero place (b ∷ bs) le = refl
 tokens_from-passed (suc n) place [] le = absurd (omega arith)
 tokens_from-passed (suc n) place (b ∷ bs) le = tokens_from-passed n (place_behind place b) bs (omega arith)
 
--- behind a piece the text goes on
+-- after a piece the text goes on
 pub tokens_from-piece : (place : Place) (text : List ℕ) (kind : Option TokenKind) (n : ℕ) → piece_of text ≡ Ok (kind, n) → 0 < n → n ≤ length text → tokens_from 0 place text ≡ joined (tokens_in place kind) (tokens_from 0 (place_after place (take n text)) (drop n text))
 tokens_from-piece place [] kind n is some le = absurd (omega arith)
 tokens_from-piece place (b ∷ bs) kind zero is some le = absurd (omega arith)
@@ -34,7 +34,7 @@ pub tokens_from-fault : (place : Place) (text : List ℕ) (fault : LexFault) →
 tokens_from-fault place [] fault is some = absurd (omega arith)
 tokens_from-fault place (b ∷ bs) fault is some = ap (λ r. piece_then place r (λ m. tokens_from (m - 1) (place_behind place b) bs)) is
 
--- what was read and what is left, before a piece and behind it
+-- what was read and what is left, before a piece and after it
 pub joined-piece : (before after : List Token) (place next : Place) (text rest : List ℕ) (kind : Option TokenKind) (n : ℕ) → piece_of text ≡ Ok (kind, n) → (0 < n) × (n ≤ length text) → after ≡ before ++ tokens_in place kind → next ≡ place_after place (take n text) → rest ≡ drop n text → joined after (tokens_from 0 next rest) ≡ joined before (tokens_from 0 place text)
 joined-piece before after place next text rest kind n is within after_is next_is rest_is =
     let here : joined after (tokens_from 0 next rest) ≡ joined (before ++ tokens_in place kind) (tokens_from 0 (place_after place (take n text)) (drop n text)) = cc in

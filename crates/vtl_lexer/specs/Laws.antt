@@ -9,6 +9,6 @@ use Rattle.vtl_lexer.specs.Places.{place_at, place_after}
 abbrev pub IsLongest : Type 0
 IsLongest = (front rest : List ℕ) (piece alone : Piece) → piece_of (front ++ rest) ≡ Ok piece → piece_of front ≡ Ok alone → alone.1 ≡ length front → length front ≤ piece.1
 
--- the line is one more than the line ends before it, and the column one more than the bytes behind the last of them
+-- the line is one more than the line ends before it, and the column one more than the bytes after the last of them
 abbrev pub CountsPlaces : Type 0
 CountsPlaces = (before : List ℕ) → place_after (place_at 1 1) before ≡ place_at (1 + count_by is_line_end before) (1 + position_or_len is_line_end (reverse before))

@@ -21,13 +21,13 @@ use Rattle.vtl_lexer.specs.Scans.{is_line_end, ends_name, word_len, digits_len, 
 abbrev pub Piece : Type 0
 Piece = Option TokenKind × ℕ
 
--- behind `//` goes a comment to the line's end
+-- after `//` goes a comment to the line's end
 unfoldable pub line_comment : List ℕ → Result Piece LexFault
 line_comment behind =
     let n = position_or_len is_line_end behind in
     if is_utf8 (take n behind) then Ok (None, 2 + n) else Err BadByte
 
--- behind `/*` goes a comment to the first `*/`
+-- after `/*` goes a comment to the first `*/`
 unfoldable pub block_comment : List ℕ → Result Piece LexFault
 block_comment behind =
     let n = before_close behind in
@@ -35,7 +35,7 @@ block_comment behind =
     else if nat_lt n (length behind) then Ok (None, 4 + n)
     else Err OpenComment
 
--- behind a single quote goes a name to the next one in the line
+-- after a single quote goes a name to the next one in the line
 unfoldable pub quoted_name : List ℕ → Result Piece LexFault
 quoted_name behind =
     let n = position_or_len ends_name behind in
@@ -44,7 +44,7 @@ quoted_name behind =
     else if n == 0 then Err BadByte
     else Ok (Some (Name (chars (take n behind))), 2 + n)
 
--- behind a double quote goes a string to the next one that isn't doubled
+-- after a double quote goes a string to the next one that isn't doubled
 unfoldable pub text_piece : List ℕ → Result Piece LexFault
 text_piece behind =
     let read = string_at behind in

@@ -43,11 +43,11 @@ abbrev pub before_close : List ℕ → ℕ
 before_close [] = 0
 before_close (b ∷ bs) = if is_close (b ∷ bs) then 0 else before_close bs + 1
 
--- this byte, spelled by so many, before what is read behind it
+-- this byte, spelled by so many, before what is read after it
 abbrev pub ahead : List ℕ → ℕ → List ℕ × ℕ → List ℕ × ℕ
 ahead bytes n behind = (bytes ++ behind.0, n + behind.1)
 
--- behind an opening quote: the bytes of the string, and how many spell them. Two quotes are one; one alone closes it
+-- after an opening quote: the bytes of the string, and how many spell them. Two quotes are one; one alone closes it
 abbrev pub string_at : List ℕ → List ℕ × ℕ
 string_at [] = ([], 0)
 string_at (b ∷ []) = if b == QUOTE then ([], 0) else (b ∷ [], 1)

@@ -25,7 +25,7 @@ abbrev pub joined : List Token → Lexed → Lexed
 joined before (Ok after) = Ok (before ++ after)
 joined before (Err fault) = Err fault
 
--- a piece, and then what is read behind so many bytes
+-- a piece, and then what is read after so many bytes
 abbrev pub piece_then : Place → Result Piece LexFault → (ℕ → Lexed) → Lexed
 piece_then place (Err fault) behind = Err (fault, place)
 piece_then place (Ok piece) behind = joined (tokens_in place piece.0) (behind piece.1)

@@ -6,7 +6,7 @@ pub fn pieces_are_longest()
     ensures { IsLongest }
 {}
 
-/// The line of a place is counted by the line ends before it, and its column by the bytes behind the last of them.
+/// The line of a place is counted by the line ends before it, and its column by the bytes after the last of them.
 pub fn counts_places()
     ensures { CountsPlaces }
 {}

@@ -11,7 +11,7 @@ use std::alloc::{AllocError, Global};
 use vtl_tokens::{Token, TokenKind};
 use vtl_values::Place;
 
-/// The tokens of a script, `End` behind them; or the first fault from the left, with its place.
+/// The tokens of a script, `End` after them; or the first fault from the left, with its place.
 pub fn tokens(alloc: Global, text: &[u8]) -> Result<Vec<Token>, LexStop>
     requires { length text.now + 2 ≤ 2 ^ 32 }
     // The list that the text has.
@@ -67,7 +67,7 @@ impl<'a> Lexer<'a> {
         }
     }
 
-    /// Keeps the token, and goes on behind so many bytes.
+    /// Keeps the token, and goes on after so many bytes.
     fn pass(&mut self, kind: Option<TokenKind>, len: usize) -> Result<(), AllocError>
         requires { len ≤ length self.old.rest.now }
         ensures tokens { OnOk result (self.new.tokens.items ≡ self.old.tokens.items ++ tokens_in self.old.place kind) }
@@ -100,7 +100,7 @@ impl<'a> Lexer<'a> {
     }
 }
 
-/// The place behind these bytes, where they begin at `place`.
+/// The place after these bytes, where they begin at `place`.
 fn place_after(place: Place, passed: &[u8]) -> Place
     requires line { 1 ≤ place.line }
     requires column { 1 ≤ place.column }

@@ -15,6 +15,3 @@ pub mod stop;
 
 pub use lexer::tokens;
 pub use stop::{LexFault, LexStop};
-
-#[cfg(test)]
-mod tests;

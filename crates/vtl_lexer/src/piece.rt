@@ -39,7 +39,7 @@ pub fn piece(alloc: Global, text: &[u8]) -> Result<(Option<TokenKind>, usize), P
     }
 }
 
-/// A comment from behind `//` to the line's end.
+/// A comment from after `//` to the line's end.
 #[tactic(auto, unfolding(crate::specs::Pieces::line_comment))]
 fn line_comment(behind: &[u8]) -> Result<(Option<TokenKind>, usize), PieceStop>
     requires { length behind.now < 2 ^ 32 }
@@ -53,7 +53,7 @@ fn line_comment(behind: &[u8]) -> Result<(Option<TokenKind>, usize), PieceStop>
     }
 }
 
-/// A comment from behind `/*` to the first `*/`.
+/// A comment from after `/*` to the first `*/`.
 #[tactic(auto, unfolding(crate::specs::Pieces::block_comment))]
 fn block_comment(behind: &[u8]) -> Result<(Option<TokenKind>, usize), PieceStop>
     requires { length behind.now < 2 ^ 32 }
@@ -68,7 +68,7 @@ fn block_comment(behind: &[u8]) -> Result<(Option<TokenKind>, usize), PieceStop>
     }
 }
 
-/// A name from behind a single quote to the next one in the line.
+/// A name from after a single quote to the next one in the line.
 #[tactic(auto, unfolding(crate::specs::Pieces::quoted_name))]
 fn quoted_name(alloc: Global, behind: &[u8]) -> Result<(Option<TokenKind>, usize), PieceStop>
     requires { length behind.now < 2 ^ 32 }
@@ -86,7 +86,7 @@ fn quoted_name(alloc: Global, behind: &[u8]) -> Result<(Option<TokenKind>, usize
     }
 }
 
-/// A string from behind a double quote to the next one that isn't doubled.
+/// A string from after a double quote to the next one that isn't doubled.
 #[tactic(auto, unfolding(crate::specs::Pieces::text_piece))]
 fn text_piece(alloc: Global, behind: &[u8]) -> Result<(Option<TokenKind>, usize), PieceStop>
     requires { length behind.now < 2 ^ 32 }

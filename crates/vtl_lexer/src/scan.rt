@@ -107,7 +107,7 @@ pub fn before_close(text: &[u8]) -> usize
     at
 }
 
-/// The bytes of a string behind its opening quote, and how many bytes spell them.
+/// The bytes of a string after its opening quote, and how many bytes spell them.
 pub fn string_at(alloc: Global, text: &[u8]) -> Result<(Vec<u8>, usize), AllocError>
     ensures read { IfOk result (λ read. (read.0.items, read.1) ≡ string_at text.now) }
     ensures within { IfOk result (λ read. read.1 ≤ length text.now) }

@@ -10,7 +10,7 @@ pub enum LexFault {
     /// A string, or a name in quotes, isn't closed.
     OpenString,
     OpenComment,
-    /// A literal is out of range, or has a digit other than 0 behind the sixth decimal.
+    /// A literal is out of range, or has a digit other than 0 after the sixth decimal.
     NumberTooLong,
 }
 

@@ -29,6 +29,3 @@ pub mod stop;
 
 pub use parsing::{is_ended, parse};
 pub use stop::{ParseFault, ParseStop};
-
-#[cfg(test)]
-mod tests;

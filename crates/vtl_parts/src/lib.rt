@@ -20,6 +20,3 @@ pub mod rules;
 pub mod windows;
 
 pub use parse::{Parse, commas};
-
-#[cfg(test)]
-mod tests;

@@ -9,6 +9,3 @@ pub mod laws;
 pub mod print;
 
 pub use print::show;
-
-#[cfg(test)]
-mod tests;

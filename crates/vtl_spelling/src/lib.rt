@@ -17,6 +17,3 @@ mod trees;
 mod words;
 
 pub use scripts::spell;
-
-#[cfg(test)]
-mod tests;

@@ -11,6 +11,3 @@ pub mod token;
 pub use keyword::Keyword;
 pub use sign::Sign;
 pub use token::{Token, TokenKind};
-
-#[cfg(test)]
-mod tests;

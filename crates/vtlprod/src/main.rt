@@ -1,20 +1,9 @@
 //! The program vtlprod: it makes the real shelf, sink and gate, and runs the top call on them.
 //!
-//! `call::run_vtlprod` works on any shelf, sink and gate, and its contract says what is written and with which status
-//! the program ends, for its words and the bytes of the files (specs/Output.antt). It stands on every other crate.
+//! The contract of `run_vtlprod`, of the crate `commands`, says what is written and with which status the program ends.
 #![tactic(auto)]
 
-pub mod call;
-pub mod eval;
-pub mod forms;
-pub mod lines;
-pub mod reading;
-pub mod round;
-pub mod script;
-pub mod stop;
-pub mod words;
-
-use crate::call::run_vtlprod;
+use commands::call::run_vtlprod;
 use outside::{FolderShelf, OpenGate, StdoutSink};
 use std::process::ExitCode;
 use std::{env, io};
@@ -46,8 +35,3 @@ fn main(rt: HostRuntime) -> ExitCode {
     let outcome = run_vtlprod(&rt, &words, &mut shelf, &mut out, &OpenGate);
     ExitCode::from(outcome.status)
 }
-
-#[cfg(test)]
-mod script_tests;
-#[cfg(test)]
-mod tests;

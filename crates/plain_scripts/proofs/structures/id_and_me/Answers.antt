@@ -1,4 +1,4 @@
--- The two components, one behind the other.
+-- The two components, one after the other.
 use Rattle.std.proofs.Common.{◌∙◌, refl, sym, subst}
 use Rattle.vtl_values.specs.Structures.{IsStructure}
 use Rattle.plain_scripts.proofs.Inputs.{chars-Id, chars-Me, ID_AND_ME-IsStructure}

@@ -1,4 +1,4 @@
--- The two structures, one behind the other.
+-- The two structures, one after the other.
 use Rattle.std.proofs.Common.{◌∙◌, refl}
 use Rattle.plain_scripts.proofs.Inputs.{chars-A, chars-B}
 use Rattle.plain_scripts.proofs.structures.plain_structures.Goals as goal

@@ -1,0 +1,105 @@
+-- How a run of stages goes on, and what its end did.
+use Rattle.std.proofs.Common.{◌≡◌, ◌≢◌, ◌∙◌, ◌++◌, ◌⊎◌, ℕ, List, [], ◌∷◌, Result, Ok, Err, IsOk, IsErrAnd, refl, sym, ap, subst, arith, inl, inr, ⊎_elim, Contains, ◌≤◌, ◌<◌}
+use Rattle.outside.specs.declared.sink.SinkStop.{SinkStop}
+use Rattle.outside.specs.declared.sink.SinkStop.TheVariants.{Failed, Memory}
+use Rattle.outside.specs.Counts.{Rose}
+use Rattle.outside.specs.Shelves.{Files, ShelfView, Told}
+use Rattle.outside.specs.Sinks.{SinkView, Took, Wrote, Extends}
+use Rattle.outside.proofs.Writes.{took_as, took_none, extends_then, from_start}
+use Rattle.commands.specs.declared.stop.Stop.{Stop}
+use Rattle.commands.specs.declared.stop.Stop.TheVariants.{Ended}
+use Rattle.commands.specs.declared.stop.Stop.TheVariants as stop
+use Rattle.commands.specs.declared.reading.TheConstants.{SCRIPT_LIMIT}
+use Rattle.commands.specs.Stages.{Answer, Stage}
+use Rattle.commands.specs.Eval.{behind}
+use Rattle.commands.specs.Lines.{unread}
+use Rattle.commands.specs.Ends.{told_by, Fault, HasCause, EndsWith, Ends, Stands, How, Did}
+use Rattle.commands.specs.Views.{status_of}
+
+-- A fault of a later stage is one of all stages: the names may be more, and the faults counted from earlier on.
+fault_later : {names wider : List (List ℕ)} {old mid new : ShelfView} → old.faults ≤ mid.faults → ((x : List ℕ) → Contains names x → Contains wider x) → Fault names mid new → Fault wider old new
+fault_later {names} {wider} {old} {mid} {new} later named fault = record {
+  rose = let rose : Rose mid.faults new.faults = fault.rose in omega (arith, later, rose);
+  named = named new.last fault.named;
+}
+
+-- The end of a stage behind others is the end of all.
+ends_later : {B C : Type 0} (names wider : List (List ℕ)) (old mid new : ShelfView) (end : Stop) (stage : Files → Stage B) (whole : Files → Stage C)
+    → mid.files ≡ old.files → old.faults ≤ mid.faults
+    → ((x : List ℕ) → Contains names x → Contains wider x)
+    → Told old.files (λ files. (a : Answer) → stage files ≡ Err a → whole files ≡ Err a)
+    → Ends names mid new end stage → Ends wider old new end whole
+ends_later {B} {C} names wider old mid new (Ended e) stage whole files later named passes ends = record {
+  meant = λ f told. ⊎_elim
+      (λ (own : stage f ≡ Err (told_by e)). inl (passes f told (told_by e) own))
+      (λ (x : Fault names mid new × (told_by e ≡ unread new.last)). inr (fault_later later named x.0, x.1))
+      (ends.meant f (files ∙ told));
+  cause = λ two. ⊎_elim (λ (x : Fault names mid new). inl (fault_later later named x)) (λ (x : SCRIPT_LIMIT < new.kept). inr x) (ends.cause two);
+  early = ends.early;
+}
+ends_later names wider old mid new stop.Memory stage whole files later named passes ends = tt
+
+-- The same, for what the code answers.
+pub stands_later : {A D B C : Type 0} {view : A → B} {seen : D → C} {names wider : List (List ℕ)} {old mid new : ShelfView} {end : Stop} (r : Result D Stop) {stage : Files → Stage B} {whole : Files → Stage C}
+    → IsErrAnd r (λ e. e ≡ end)
+    → mid.files ≡ old.files → old.faults ≤ mid.faults
+    → ((x : List ℕ) → Contains names x → Contains wider x)
+    → Told old.files (λ files. (a : Answer) → stage files ≡ Err a → whole files ≡ Err a)
+    → Stands view names mid new (Err end) stage → Stands seen wider old new r whole
+stands_later {names = names} {wider = wider} {old = old} {mid = mid} {new = new} {end = end} (Err e) {stage = stage} {whole = whole} same files later named passes s = record {
+  files = s.files ∙ files;
+  later = omega (arith, later, s.later);
+  value = tt;
+  end = ends_later names wider old mid new e stage whole files later named passes (subst (λ (x : Stop). Ends names mid new x stage) (sym same) s.end);
+}
+stands_later (Ok a) same files later named passes s = absurd same
+
+-- What a write did, by its status.
+how_of : (old new : SinkView) (r : Result (Unit {0}) SinkStop) (meant : Answer) → Wrote old new r meant.text → How old new meant (status_of r meant.status)
+how_of old new (Ok u) meant w = inl (refl, took_as {V = IsOk {T = Unit {0}} {E = SinkStop} (Ok u)} (λ x. refl) w.took)
+how_of old new (Err Failed) meant w = inr (inl (refl, w.failed refl, took_as {V = IsOk {T = Unit {0}} {E = SinkStop} (Err Failed)} (λ no. absurd no) w.took))
+how_of old new (Err Memory) meant w = inr (inr (refl, took_as {V = IsOk {T = Unit {0}} {E = SinkStop} (Err Memory)} (λ no. absurd no) w.took))
+
+pub did_as : {old new : SinkView} {r : Result (Unit {0}) SinkStop} {text : List ℕ} {status now : ℕ} {meant : Answer}
+    → Wrote old new r text → now ≡ status_of r status → meant ≡ record { status = status; text = text } → Did old new meant now
+did_as {old} {new} {r} {text} {status} {now} {meant} w is same =
+    let own : Answer = record { status = status; text = text } in
+    record { how = subst (λ (a : Answer). How old new a now) (sym same) (subst (λ (n : ℕ). How old new own n) (sym is) (how_of old new r own w)) }
+
+-- for want of memory nothing was written
+pub did_nothing : (view : SinkView) (meant : Answer) → Did view view meant 7
+did_nothing view meant = record { how = inr (inr (refl, took_none view.taken meant.text)) }
+
+-- a list of one has nothing else
+pub contains_one : {y : List ℕ} (xs : List (List ℕ)) (x : List ℕ) → Contains xs y → Contains (y ∷ []) x → Contains xs x
+contains_one {y} xs x found (k, below, is) =
+    let zero : k ≡ 0 = omega arith in
+    let same : y ≡ x = grind (arith, zero, is) in
+    subst (λ (z : List ℕ). Contains xs z) same found
+
+-- of three names the second and the third
+pub second_named : (a b c x : List ℕ) → Contains (b ∷ []) x → Contains (a ∷ b ∷ c ∷ []) x
+second_named a b c x = contains_one (a ∷ b ∷ c ∷ []) x (1, omega arith, refl)
+
+pub third_named : (a b c x : List ℕ) → Contains (c ∷ []) x → Contains (a ∷ b ∷ c ∷ []) x
+third_named a b c x = contains_one (a ∷ b ∷ c ∷ []) x (2, omega arith, refl)
+
+-- status 6 comes of a fault alone
+pub rose_at_6 : (old new : SinkView) (r : Result (Unit {0}) SinkStop) (text : List ℕ) (status : ℕ) → status < 6 → Wrote old new r text → status_of r status ≡ 6 → Rose old.faults new.faults
+rose_at_6 old new (Ok u) text status below w six = absurd (omega (arith, below, six))
+rose_at_6 old new (Err Failed) text status below w six = w.failed refl
+rose_at_6 old new (Err Memory) text status below w six = absurd (omega (arith, six))
+
+-- no write gives status 2
+pub never_2 : (r : Result (Unit {0}) SinkStop) (status : ℕ) → status ≢ 2 → status_of r status ≢ 2
+never_2 (Ok u) status other two = other two
+never_2 (Err Failed) status other two = absurd (omega (arith, two))
+never_2 (Err Memory) status other two = absurd (omega (arith, two))
+
+-- a text behind another was written
+pub did_behind : (old mid new : SinkView) (r s : Result (Unit {0}) SinkStop) (lines text : List ℕ) (status now : ℕ) (meant : Answer)
+    → Extends old mid (Ok tt) r lines → Extends mid new r s text → now ≡ status_of s status → meant ≡ record { status = status; text = text } → Did old new (behind lines meant) now
+did_behind old mid new r s lines text status now meant first second is same = did_as (from_start (extends_then lines text first second)) is (ap (behind lines) same)
+
+pub wrote_behind : (old mid new : SinkView) (r s : Result (Unit {0}) SinkStop) (lines text : List ℕ) → Extends old mid (Ok tt) r lines → Extends mid new r s text → Wrote old new s (lines ++ text)
+wrote_behind old mid new r s lines text first second = from_start (extends_then lines text first second)

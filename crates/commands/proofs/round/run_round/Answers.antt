@@ -1,0 +1,30 @@
+use Rattle.std.proofs.Common.{ap, arith}
+use Rattle.commands.proofs.RoundLemmas.{open_more, works_more, longer, ends_published, ends_failed, ends_dropped}
+use Rattle.commands.proofs.round.run_round.Goals as goal
+
+pub works-preserved : goal.works-preserved
+works-preserved g c =
+    let p = c.works.production in
+    let q = c.run_next.new.production in
+    let next = c.in-Counted.ensures in
+    record {
+      open_round = open_more p q c.args.by next.statement next.what c.works.invariant.open_round next.back next.gives;
+      works = works_more c.args.by c.args.production.now p q next.statement next.what c.works.invariant.works next.back next.gives;
+    }
+
+pub works-smaller : goal.works-smaller
+works-smaller g c =
+    let next = c.in-Counted.ensures in
+    let (long, same) = longer c.works.production c.run_next.new.production c.args.by next.statement next.what next.gives in
+    let limits = ap (λ l. l.entries) same in
+    let fits = next.fits in
+    omega (arith, long, limits, fits)
+
+pub returns-in-Published : goal.returns-in-Published
+returns-in-Published g c = ends_published c.args.by c.args.production.now c.works.production c.run_next.new.production c.in-Published.number c.works.invariant.works c.in-Published.ensures
+
+pub returns-in-Failed : goal.returns-in-Failed
+returns-in-Failed g c = ends_failed c.args.by c.args.production.now c.works.production c.run_next.new.production c.in-Failed.fault c.works.invariant.works c.in-Failed.ensures
+
+pub returns-in-Dropped : goal.returns-in-Dropped
+returns-in-Dropped g c = ends_dropped c.args.by c.args.production.now c.works.production c.run_next.new.production c.works.invariant.works c.in-Dropped.ensures

@@ -1,0 +1,156 @@
+// The top call.
+ghost use Rattle.std.specs.Prelude.{◌≡◌, ◌≢◌, ◌⊎◌, map, string_bytes, IsErr, IsErrAnd, IfOk, IfSome, IsSome, None};
+ghost use Rattle.std.specs.Thread.{IsSync};
+ghost use Rattle.outside.specs.Counts.{Rose};
+ghost use Rattle.outside.specs.Shelves.{Told};
+ghost use Rattle.commands.specs.Eval as meant;
+ghost use Rattle.commands.specs.Eval.{behind};
+ghost use Rattle.commands.specs.Ends.{Fault, Gives, HasCause, Stands, Did, EndedSo, IsEarly};
+ghost use Rattle.commands.specs.Lines.{not_built, unread};
+ghost use Rattle.commands.specs.Output.{output, ready, IsProductionOf};
+ghost use Rattle.commands.specs.Runs.{LIMITS, IsFew, IsRunOf, WritesEnd};
+ghost use Rattle.commands.specs.Stages.{Answer};
+ghost use Rattle.commands.specs.Views.{run_of, status_of};
+ghost use Rattle.commands.specs.Words.{command_of, files_named};
+
+use crate::eval::{End, Ran, eval};
+use crate::forms::{EvalInput, read_forms};
+use crate::reading::read_files;
+use crate::stop::Stop;
+use crate::words::command;
+use outside::{Gate, Shelf, Sink, SinkStop, put};
+use round_core::Production;
+use std::alloc::Global;
+use std::marker::Sync;
+use std::sync::Wait;
+use std::thread::Threads;
+
+/// How a run of the program ended.
+#[derive(Drop)]
+pub struct Outcome {
+    /// 0 where all went well; 2 for a file that can't be read or is too long, 3 for a script that is refused, 4 for what
+    /// isn't built yet, 5 for a round that failed, 6 for a write that failed, 7 for want of memory.
+    pub status: u8,
+    /// Where the run came to its end, the production that it ran on.
+    pub production: Option<Production>,
+}
+
+// All stages before the run.
+fn gathered<S: Shelf>(alloc: Global, words: &Vec<String>, shelf: &mut S) -> Result<EvalInput, Stop>
+    ensures stage { Stands run_of (files_named (command_of (map string_bytes words.now.items)))
+        (S.view shelf.old) (S.view shelf.new) result (ready (map string_bytes words.now.items)) }
+    ensures few { IfOk result (λ input. IsFew input.revisions.items) }
+    ensures words { IsErr (command_of (map string_bytes words.now.items)) → IsErrAnd result (λ stop. Gives stop not_built) }
+{
+    let eval = command(alloc, words)?;
+    let bytes = read_files(alloc, shelf, &eval)?;
+    read_forms(alloc, &bytes)
+}
+
+// The status of a run that wrote so far.
+fn status_after(written: Result<(), SinkStop>, status: u8) -> u8
+    ensures { result ≡ status_of written status }
+{
+    match written {
+        Ok(()) => status,
+        Err(SinkStop::Failed) => 6,
+        Err(SinkStop::Memory) => 7,
+    }
+}
+
+// Writes the lines of a run, and then its end.
+fn write_run<K: Sink>(out: &mut K, ran: &Ran) -> u8
+    ensures did { (meant : Answer) → WritesEnd ran.now.production ran.now.end meant → Did (K.view out.old) (K.view out.new) (behind ran.now.lines.items meant) result }
+    ensures write { result ≡ 6 → Rose (K.view out.old).faults (K.view out.new).faults }
+    ensures cause { result ≢ 2 }
+{
+    let written = put(out, Ok(()), ran.lines.as_slice());
+    match &ran.end {
+        End::Released => status_after(ran.production.latest().write_to(out, written), 0),
+        End::Failed(line) => status_after(put(out, written, line.as_slice()), 5),
+    }
+}
+
+// The run of a script over revisions. Its production is handed back where it came to its end.
+fn run<R: Threads + Sync, K: Sink>(rt: &R, alloc: Global, out: &mut K, input: EvalInput) -> Outcome
+    requires few { IsFew input.revisions.items }
+    requires sync { IsSync R.row }
+    ensures did { Did (K.view out.old) (K.view out.new) (meant.eval input.script input.revisions.items) result.status }
+    ensures write { result.status ≡ 6 → Rose (K.view out.old).faults (K.view out.new).faults }
+    ensures cause { result.status ≢ 2 }
+    ensures production { IfSome result.production (IsRunOf input.script input.revisions.items) }
+    ensures handed_back { result.status ≢ 7 → IsSome result.production }
+{
+    match eval(rt, alloc, input.script, input.revisions) {
+        Ok(ran) => {
+            let status = write_run(out, &ran);
+            Outcome {
+                status,
+                production: Some(ran.production),
+            }
+        }
+        Err(_) => Outcome {
+            status: 7,
+            production: None,
+        },
+    }
+}
+
+// The outcome of a command that ended before its run.
+fn ended<K: Sink>(out: &mut K, stop: Stop) -> Outcome
+    requires { IsEarly stop }
+    ensures did { EndedSo (K.view out.old) (K.view out.new) stop result.status }
+    ensures write { result.status ≡ 6 → Rose (K.view out.old).faults (K.view out.new).faults }
+    ensures production { result.production ≡ None }
+{
+    match stop {
+        Stop::Ended(end) => Outcome {
+            status: status_after(out.write(&end.line), end.status),
+            production: None,
+        },
+        Stop::Memory => Outcome {
+            status: 7,
+            production: None,
+        },
+    }
+}
+
+/// Runs the program on its words, those after its name. It reads from the shelf, writes to the sink, and passes the
+/// gate where the crew does.
+///
+/// Where the shelf tells its bytes, what is written and the status are those of `output` (specs/Output.antt), except
+/// that a fault of the shelf is told by the line `read NAME` with status 2. At status 6, where the sink's count of
+/// faults rose, and at 7, for want of memory, a prefix of the text is written.
+pub fn run_vtlprod<R: AllocGlobal + Threads + Wait + Sync, S: Shelf, K: Sink, G: Gate>(
+    rt: &R,
+    words: &Vec<String>,
+    shelf: &mut S,
+    out: &mut K,
+    gate: &G,
+) -> Outcome
+    // What is written, and the status.
+    ensures output { Told (S.view shelf.old).files (λ files.
+        Did (K.view out.old) (K.view out.new) (output (map string_bytes words.now.items) files) result.status
+        ⊎ (Fault (files_named (command_of (map string_bytes words.now.items))) (S.view shelf.old) (S.view shelf.new)
+        × Did (K.view out.old) (K.view out.new) (unread (S.view shelf.new).last) result.status)) }
+
+    // Whatever the shelf tells: the causes of statuses 2 and 6, and the answer to words that no command accepts.
+    ensures read { HasCause (files_named (command_of (map string_bytes words.now.items)))
+        (S.view shelf.old) (S.view shelf.new) result.status }
+    ensures write { result.status ≡ 6 → Rose (K.view out.old).faults (K.view out.new).faults }
+    ensures words { IsErr (command_of (map string_bytes words.now.items)) →
+        Did (K.view out.old) (K.view out.new) not_built result.status }
+
+    // Of the production: its limits, and where the shelf tells its bytes, its script and its journal.
+    ensures limits { IfSome result.production (λ p. p.limits ≡ LIMITS) }
+    ensures production { Told (S.view shelf.old).files (λ files.
+        IfSome result.production (IsProductionOf (ready (map string_bytes words.now.items) files))) }
+    ensures handed_back { (result.status ≡ 0) ⊎ (result.status ≡ 5) → IsSome result.production }
+{
+    let _ = gate;
+    let alloc = rt.alloc();
+    match gathered(alloc, words, shelf) {
+        Ok(input) => run(rt, alloc, out, input),
+        Err(stop) => ended(out, stop),
+    }
+}

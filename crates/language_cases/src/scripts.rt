@@ -1,0 +1,93 @@
+// The tree of a script: a line for each statement, ruleset and rule.
+use crate::forms::push_form;
+use crate::heads::{push_head, push_name, push_optional, push_place};
+use crate::parts::push_variables;
+use anyhow::Result;
+use std::alloc::{AllocError, Global};
+use vtl_syntax::{DatapointRule, FaultPart, HierarchyRule, Ruleset, Script};
+
+/// The statements, and the rulesets with their rules.
+pub fn tree(alloc: Global, script: &Script) -> Result<String> {
+    let mut out = String::new(alloc);
+    for statement in script.statements.as_slice() {
+        let sign = if statement.persistent { "<-" } else { ":=" };
+        push_place(&mut out, statement.place)?;
+        write!(out, "{} {sign} ", statement.name.as_str())?;
+        push_form(&mut out, &statement.expr)?;
+        out.push_str("\n")?;
+    }
+    for ruleset in script.rulesets.as_slice() {
+        push_ruleset(&mut out, ruleset)?;
+    }
+    out.pop();
+    Ok(out)
+}
+
+fn push_ruleset(out: &mut String, ruleset: &Ruleset) -> Result<(), AllocError> {
+    match ruleset {
+        Ruleset::Datapoint(rules) => {
+            push_place(out, rules.place)?;
+            write!(out, "datapoint {}", rules.name.as_str())?;
+            push_variables(out, rules.variables.as_slice())?;
+            for rule in rules.rules.as_slice() {
+                push_datapoint_rule(out, rule)?;
+            }
+        }
+        Ruleset::Hierarchy(rules) => {
+            push_place(out, rules.place)?;
+            write!(
+                out,
+                "hierarchy {} rule {}",
+                rules.name.as_str(),
+                rules.component.as_str()
+            )?;
+            if let Some(variables) = &rules.variables {
+                push_variables(out, variables.as_slice())?;
+            }
+            for rule in rules.rules.as_slice() {
+                push_hierarchy_rule(out, rule)?;
+            }
+        }
+    }
+    out.push_str("\n")
+}
+
+fn push_datapoint_rule(out: &mut String, rule: &DatapointRule) -> Result<(), AllocError> {
+    out.push_str("\n  ")?;
+    push_place(out, rule.place)?;
+    out.push_str("rule")?;
+    push_name(out, "named", &rule.name)?;
+    push_optional(out, "when", rule.condition.as_ref())?;
+    push_head(out, &rule.expr)?;
+    push_fault(out, &rule.fault)
+}
+
+fn push_hierarchy_rule(out: &mut String, rule: &HierarchyRule) -> Result<(), AllocError> {
+    out.push_str("\n  ")?;
+    push_place(out, rule.place)?;
+    out.push_str("rule")?;
+    push_name(out, "named", &rule.name)?;
+    push_optional(out, "when", rule.condition.as_ref())?;
+    write!(out, " {} {:?}", rule.left.as_str(), rule.relation)?;
+    if let Some(sign) = &rule.sign {
+        write!(out, " {sign:?}")?;
+    }
+    write!(out, " {}", rule.first.as_str())?;
+    for other in rule.others.as_slice() {
+        out.push_str(" (")?;
+        push_place(out, other.place)?;
+        write!(out, "{:?} {})", other.sign, other.name.as_str())?;
+    }
+    push_fault(out, &rule.fault)
+}
+
+fn push_fault(out: &mut String, fault: &FaultPart) -> Result<(), AllocError> {
+    out.push_str(" ")?;
+    push_place(out, fault.place)?;
+    out.push_str("fault")?;
+    push_name(out, "code", &fault.code)?;
+    match &fault.level {
+        Some(level) => write!(out, " level {}", level.value),
+        None => Ok(()),
+    }
+}

@@ -1,0 +1,50 @@
+//! Cases of values: how they are read, written and ordered, arithmetic on numbers, operators on texts, patterns,
+//! the combination of viral codes, and structure files.
+//!
+//! `data/` holds the cases, and `stdout` what must come of them by the rules that their files name.
+#![tactic(auto)]
+
+mod decimals;
+mod structures;
+mod texts;
+mod values;
+mod viral;
+
+use anyhow::{Result, bail};
+use case_lines::answer_files;
+use serde_json::Value;
+use std::alloc::Global;
+
+// The answer of the call that a case names.
+fn answer(alloc: Global, call: &str, words: &[Value]) -> Result<String> {
+    match call {
+        "read" => values::read(alloc, words),
+        "order" => values::order(alloc, words),
+        "combine" => viral::combined(alloc, words),
+        "structures" => structures::structures(alloc, words),
+        "many sets" => structures::many_sets(alloc, words),
+        "many components" => structures::many_components(alloc, words),
+        "+" | "-" | "*" | "/" | "mod" => decimals::two(alloc, call, words),
+        "ratio" => decimals::share(alloc, words),
+        "mean" => decimals::mean_of(alloc, words),
+        "ceil" | "floor" => decimals::whole(alloc, call, words),
+        "round" | "trunc" => decimals::places(alloc, call, words),
+        _ => text_answer(alloc, call, words),
+    }
+}
+
+fn text_answer(alloc: Global, call: &str, words: &[Value]) -> Result<String> {
+    match call {
+        "trim" | "ltrim" | "rtrim" | "upper" | "lower" => texts::one(alloc, call, words),
+        "length" | "instr" => texts::counted(alloc, call, words),
+        "||" => texts::joined(alloc, words),
+        "substr" => texts::part(alloc, words),
+        "replace" => texts::replaced(alloc, words),
+        "match_characters" => texts::matched(alloc, words),
+        _ => bail!("no call {call}"),
+    }
+}
+
+fn main(rt: HostRuntime) -> Result<()> {
+    answer_files(&rt, &answer)
+}

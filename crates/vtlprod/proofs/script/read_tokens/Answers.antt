@@ -1,5 +1,0 @@
-use Rattle.vtlprod.proofs.ScriptLemmas.{ended}
-use Rattle.vtlprod.proofs.script.read_tokens.Goals as goal
-
-pub returns-in-Ok-clause-ended : goal.returns-in-Ok-clause-ended
-returns-in-Ok-clause-ended c = ended c.args.text.now c.in-Ok.tokens.items c.in-Ok.ensures.ok
