@@ -1,24 +1,25 @@
--- What is read of a text has its end behind it.
-use Rattle.std.proofs.Common.{◌≡◌, ℕ, List, Ok}
-use Rattle.std.proofs.lemmas.List.Elements.{All-weaker}
-use Rattle.vtl_tokens.specs.declared.token.Token.{Token}
-use Rattle.vtl_tokens.specs.declared.token.TokenKind.{TokenKind}
-use Rattle.vtl_tokens.specs.declared.token.TokenKind.TheVariants.{Name, Reserved, Text, Integer, Number, Sign, End}
-use Rattle.vtl_lexer.specs.Texts.{tokens_of}
-use Rattle.vtl_layout.specs.Tokens.{IsToken}
-use Rattle.vtl_layout.proofs.ReadTokens.{tokens_are_tokens}
-use Rattle.vtl_parser.specs.Parses.{IsEnded}
+-- The parser answers what the tokens of a text are.
+use Rattle.std.proofs.Common.{◌≡◌, Result, Err, refl, sym, ap, ◌∙◌}
+use Rattle.vtl_values.specs.declared.place.Place.{Place}
+use Rattle.vtl_syntax.specs.declared.script.Script.{Script}
+use Rattle.vtl_grammar.specs.Marks.{Tokens}
+use Rattle.vtl_grammar.specs.Faults.{Fault}
+use Rattle.vtl_parser.specs.Parses.{answered, IsOnly}
+use Rattle.vtl_parser.proofs.Answered.{answered-only}
+use Rattle.commands.specs.declared.stop.Stop.{Stop}
+use Rattle.commands.specs.declared.stop.Stop.TheVariants.{Ended, Memory}
+use Rattle.commands.specs.Stages.{Answer, Stage}
+use Rattle.commands.specs.Ends.{Gives, Refuses}
+use Rattle.commands.specs.Scripts.{fault_line, refused_script, told_tree}
 
-not-end : (kind : TokenKind) → IsToken kind → kind ≡ End → ⊥
-not-end (Name name) is e = absurd cc
-not-end (Reserved word) is e = absurd cc
-not-end (Text text) is e = absurd cc
-not-end (Integer value) is e = absurd cc
-not-end (Number millionths) is e = absurd cc
-not-end (Sign sign) is e = absurd cc
-not-end End is e = is
+-- what the tokens are and nothing else is what is answered
+pub answered-is : (tokens : Tokens) (answer : Result Script (Fault × Place)) → IsOnly tokens answer → answered tokens ≡ answer
+answered-is tokens answer only = (only (answered tokens)).0 ((answered-only tokens (answered tokens)).1 refl)
 
-pub ended : (text : List ℕ) (tokens : List Token) → tokens_of text ≡ Ok tokens → IsEnded tokens
-ended text tokens is =
-    let (kinds, same, all) = tokens_are_tokens text tokens is in
-    (kinds, same, All-weaker IsToken (λ kind. kind ≡ End → ⊥) not-end kinds all)
+abbrev refused : Answer → Stage Script
+refused answer = Err answer
+
+-- an end with the line of the fault that the tokens have stands for it
+pub refuses-tree : (tokens : Tokens) (fault : Fault) (place : Place) (stop : Stop) → IsOnly tokens (Err (fault, place)) → Gives stop (refused_script place (fault_line fault)) → Refuses stop (told_tree (answered tokens))
+refuses-tree tokens fault place (Ended e) only gives = ap told_tree (answered-is tokens (Err (fault, place)) only) ∙ ap refused (sym gives)
+refuses-tree tokens fault place Memory only gives = tt

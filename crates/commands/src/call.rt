@@ -35,6 +35,19 @@ pub struct Outcome {
     pub production: Option<Production>,
 }
 
+impl Outcome {
+    /// The status alone. The production is let go.
+    pub fn into_status(self) -> u8
+        ensures { result ≡ self.status }
+    {
+        let Outcome {
+            status,
+            production: _,
+        } = self;
+        status
+    }
+}
+
 // All stages before the run.
 fn gathered<S: Shelf>(alloc: Global, words: &Vec<String>, shelf: &mut S) -> Result<EvalInput, Stop>
     ensures stage { Stands run_of (files_named (command_of (map string_bytes words.now.items)))

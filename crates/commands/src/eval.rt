@@ -131,9 +131,11 @@ pub fn eval<R: Threads + Sync>(
 {
     let mut production = new_production(alloc, script)?;
     let verdicts = judge_revisions(alloc, &mut production, revisions)?;
+    // Called for what their clauses say of the production: its statements are few, and its journal is legal.
     let _ = production.script().statements();
     let _ = production.journal();
     let round = run_whole(rt, alloc, &mut production, 0)?;
+    // Again, after the round.
     let _ = production.journal();
     let end = end_of_round(alloc, &production, verdicts.accepted, round)?;
     Ok(Ran {

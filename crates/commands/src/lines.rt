@@ -52,6 +52,7 @@ fn key_text(alloc: Global, fields: &[RawField]) -> Result<Vec<u8>, AllocError>
         texts.push(text_of(alloc, field)?)?;
     }
     let mut row = words_row(alloc, texts.as_slice())?;
+    // The line end.
     let _ = row.pop();
     Ok(row)
 }

@@ -1,15 +1,18 @@
 // What is written of a script, and the faults of a text that is none.
+ghost use Rattle.vtl_parser.specs.Parses.{IsEnded};
+
 use crate::scripts::tree;
 use anyhow::{Result, bail};
 use std::alloc::{AllocError, Global};
 use vtl_lexer::{LexStop, tokens};
-use vtl_parser::{ParseFault, ParseStop, is_ended, parse};
+use vtl_parser::{ParseFault, ParseStop, parse};
 use vtl_printer::show;
 use vtl_syntax::Script;
 use vtl_tokens::{Token, TokenKind};
 use vtl_values::{Place, Value, Word, show_value};
 
 /// The answer to the script of a section with this title.
+#[tactic(auto, using(vtl_parser::proofs::Ended::ended))]
 pub fn answer(alloc: Global, title: &str, text: &[u8]) -> Result<String> {
     if text.len() > 100_000 {
         bail!("a long script");
@@ -25,10 +28,9 @@ pub fn answer(alloc: Global, title: &str, text: &[u8]) -> Result<String> {
     }
 }
 
-fn parsed(alloc: Global, title: &str, tokens: &[Token]) -> Result<String> {
-    if !is_ended(tokens) {
-        bail!("no end");
-    }
+fn parsed(alloc: Global, title: &str, tokens: &[Token]) -> Result<String>
+    requires { IsEnded tokens.now }
+{
     match parse(alloc, tokens) {
         Ok(script) if title.starts_with("tree") => tree(alloc, &script),
         Ok(script) if title.starts_with("count") => count(alloc, &script),
@@ -55,6 +57,7 @@ fn count(alloc: Global, script: &Script) -> Result<String> {
     for (what, number) in [
         ("statements", script.statements.len()),
         ("rulesets", script.rulesets.len()),
+        ("operators", script.operators.len()),
     ] {
         if number > 0 {
             let gap = if out.is_empty() { "" } else { " " };
@@ -65,6 +68,7 @@ fn count(alloc: Global, script: &Script) -> Result<String> {
 }
 
 // The text that a printed script is printed as, where it is read as a script.
+#[tactic(auto, using(vtl_parser::proofs::Ended::ended))]
 fn printed_again(alloc: Global, text: &Word) -> Result<Word> {
     let bytes = text.as_str().as_bytes();
     if bytes.len() > 1_000_000 {
@@ -73,11 +77,7 @@ fn printed_again(alloc: Global, text: &Word) -> Result<Word> {
     let Ok(list) = tokens(alloc, bytes) else {
         bail!("no tokens");
     };
-    let list = list.as_slice();
-    if !is_ended(list) {
-        bail!("no end");
-    }
-    match parse(alloc, list) {
+    match parse(alloc, list.as_slice()) {
         Ok(script) => Ok(show(alloc, &script)?),
         Err(_) => bail!("no script"),
     }

@@ -1,5 +1,5 @@
 // Clauses, and the parts of a join.
-use crate::heads::{push_head, push_name, push_optional, push_place};
+use crate::heads::{push_at, push_head, push_name, push_optional, push_place, push_word};
 use crate::parts::{push_comps, push_grouping, push_renames, push_sub_items};
 use sqlite_items::Boxed;
 use std::alloc::AllocError;
@@ -39,27 +39,27 @@ pub fn push_groups(out: &mut String, groups: &Option<Boxed<Groups>>) -> Result<(
 pub fn push_clause(out: &mut String, clause: &Clause) -> Result<(), AllocError> {
     match clause {
         Clause::Filter { condition, place } => {
-            write!(out, " {}:{} Filter", place.line, place.column)?;
+            push_at(out, *place, "Filter")?;
             push_head(out, condition.get())
         }
         Clause::Calc { items, place } => {
-            write!(out, " {}:{} Calc", place.line, place.column)?;
+            push_at(out, *place, "Calc")?;
             push_items(out, items.as_slice())
         }
         Clause::Keep { components, place } => {
-            write!(out, " {}:{} Keep", place.line, place.column)?;
+            push_at(out, *place, "Keep")?;
             push_comps(out, components.as_slice())
         }
         Clause::Drop { components, place } => {
-            write!(out, " {}:{} Drop", place.line, place.column)?;
+            push_at(out, *place, "Drop")?;
             push_comps(out, components.as_slice())
         }
         Clause::Rename { renames, place } => {
-            write!(out, " {}:{} Rename", place.line, place.column)?;
+            push_at(out, *place, "Rename")?;
             push_renames(out, renames.as_slice())
         }
         Clause::Sub { items, place } => {
-            write!(out, " {}:{} Sub", place.line, place.column)?;
+            push_at(out, *place, "Sub")?;
             push_sub_items(out, items.as_slice())
         }
         Clause::Unpivot {
@@ -67,15 +67,16 @@ pub fn push_clause(out: &mut String, clause: &Clause) -> Result<(), AllocError> 
             measure,
             place,
         } => {
-            write!(out, " {}:{} Unpivot", place.line, place.column)?;
-            write!(out, " {} {}", identifier.as_str(), measure.as_str())
+            push_at(out, *place, "Unpivot")?;
+            push_word(out, identifier)?;
+            push_word(out, measure)
         }
         Clause::Aggr {
             items,
             groups,
             place,
         } => {
-            write!(out, " {}:{} Aggr", place.line, place.column)?;
+            push_at(out, *place, "Aggr")?;
             push_items(out, items.as_slice())?;
             push_groups(out, groups)
         }

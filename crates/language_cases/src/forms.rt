@@ -1,6 +1,9 @@
 // Expressions: what a form has besides its place, with the heads of its parts.
 use crate::clauses::{push_clause, push_groups, push_join_clause, push_operand};
-use crate::heads::{head, push_head, push_heads, push_name, push_optional, push_place, push_value};
+use crate::heads::{
+    head, push_choice, push_head, push_heads, push_name, push_number, push_optional, push_place,
+    push_value, push_word,
+};
 use crate::parts::push_over;
 use sqlite_items::Boxed;
 use std::alloc::AllocError;
@@ -33,7 +36,7 @@ pub fn push_form(out: &mut String, tree: &Expr) -> Result<(), AllocError> {
             right,
             ..
         } => {
-            write!(out, " {sign:?}")?;
+            push_choice(out, sign)?;
             push_two(out, left.get(), right.get())
         }
         Expr::And { left, right, .. } => push_two(out, left.get(), right.get()),
@@ -43,7 +46,7 @@ pub fn push_form(out: &mut String, tree: &Expr) -> Result<(), AllocError> {
             right,
             ..
         } => {
-            write!(out, " {sign:?}")?;
+            push_choice(out, sign)?;
             push_two(out, left.get(), right.get())
         }
         Expr::Sum {
@@ -52,7 +55,7 @@ pub fn push_form(out: &mut String, tree: &Expr) -> Result<(), AllocError> {
             right,
             ..
         } => {
-            write!(out, " {sign:?}")?;
+            push_choice(out, sign)?;
             push_two(out, left.get(), right.get())
         }
         Expr::Product {
@@ -61,7 +64,7 @@ pub fn push_form(out: &mut String, tree: &Expr) -> Result<(), AllocError> {
             right,
             ..
         } => {
-            write!(out, " {sign:?}")?;
+            push_choice(out, sign)?;
             push_two(out, left.get(), right.get())
         }
         _ => push_tail(out, tree),
@@ -77,7 +80,7 @@ fn push_tail(out: &mut String, tree: &Expr) -> Result<(), AllocError> {
             set,
             ..
         } => {
-            write!(out, " {sign:?}")?;
+            push_choice(out, sign)?;
             push_head(out, left.get())?;
             for value in set.as_slice() {
                 push_value(out, value)?;
@@ -85,11 +88,11 @@ fn push_tail(out: &mut String, tree: &Expr) -> Result<(), AllocError> {
             Ok(())
         }
         Expr::Signed { sign, operand, .. } => {
-            write!(out, " {sign:?}")?;
+            push_choice(out, sign)?;
             push_head(out, operand.get())
         }
         Expr::Member { operand, name, .. } => {
-            write!(out, " {}", name.as_str())?;
+            push_word(out, name)?;
             push_head(out, operand.get())
         }
         Expr::Clause {
@@ -102,7 +105,7 @@ fn push_tail(out: &mut String, tree: &Expr) -> Result<(), AllocError> {
         }
         Expr::Bracket { inner, .. } => push_head(out, inner.get()),
         Expr::Literal { value, .. } => push_value(out, value),
-        Expr::Name { name, .. } => write!(out, " {}", name.as_str()),
+        Expr::Name { name, .. } => push_word(out, name),
         Expr::CountAll { .. } => Ok(()),
         _ => push_call(out, tree),
     }
@@ -116,7 +119,7 @@ fn push_call(out: &mut String, tree: &Expr) -> Result<(), AllocError> {
             operand,
             ..
         } => {
-            write!(out, " {function:?}")?;
+            push_choice(out, function)?;
             push_head(out, operand.get())
         }
         Expr::Round {
@@ -125,7 +128,7 @@ fn push_call(out: &mut String, tree: &Expr) -> Result<(), AllocError> {
             digits,
             ..
         } => {
-            write!(out, " {function:?}")?;
+            push_choice(out, function)?;
             push_head(out, operand.get())?;
             push_integer(out, "digits", digits)
         }
@@ -135,7 +138,7 @@ fn push_call(out: &mut String, tree: &Expr) -> Result<(), AllocError> {
             right,
             ..
         } => {
-            write!(out, " {function:?}")?;
+            push_choice(out, function)?;
             push_two(out, left.get(), right.get())
         }
         Expr::Between {
@@ -162,7 +165,7 @@ fn push_call(out: &mut String, tree: &Expr) -> Result<(), AllocError> {
             right,
             ..
         } => {
-            write!(out, " {function:?}")?;
+            push_choice(out, function)?;
             push_two(out, left.get(), right.get())
         }
         Expr::ExistsIn {
@@ -173,7 +176,7 @@ fn push_call(out: &mut String, tree: &Expr) -> Result<(), AllocError> {
         } => {
             push_two(out, left.get(), right.get())?;
             match rows {
-                Some(rows) => write!(out, " {rows:?}"),
+                Some(rows) => push_choice(out, rows),
                 None => Ok(()),
             }
         }
@@ -187,7 +190,7 @@ fn push_integer(
     integer: &Option<Integer>,
 ) -> Result<(), AllocError> {
     match integer {
-        Some(integer) => write!(out, " {label} {}", integer.value),
+        Some(integer) => push_number(out, label, *integer),
         None => Ok(()),
     }
 }
@@ -230,7 +233,7 @@ fn push_list_call(out: &mut String, tree: &Expr) -> Result<(), AllocError> {
             others,
             ..
         } => {
-            write!(out, " {function:?}")?;
+            push_choice(out, function)?;
             push_two(out, first.get(), second.get())?;
             push_heads(out, others.as_slice())
         }
@@ -245,7 +248,7 @@ fn push_list_call(out: &mut String, tree: &Expr) -> Result<(), AllocError> {
             rename,
             ..
         } => {
-            write!(out, " {function:?}")?;
+            push_choice(out, function)?;
             push_operand(out, first.get())?;
             push_operand(out, second.get())?;
             for operand in others.as_slice() {
@@ -269,7 +272,7 @@ fn push_group_call(out: &mut String, tree: &Expr) -> Result<(), AllocError> {
             groups,
             ..
         } => {
-            write!(out, " {function:?}")?;
+            push_choice(out, function)?;
             push_head(out, operand.get())?;
             push_groups(out, groups)
         }
@@ -279,7 +282,7 @@ fn push_group_call(out: &mut String, tree: &Expr) -> Result<(), AllocError> {
             over,
             ..
         } => {
-            write!(out, " {function:?}")?;
+            push_choice(out, function)?;
             push_head(out, operand.get())?;
             push_over(out, over)
         }
@@ -290,9 +293,9 @@ fn push_group_call(out: &mut String, tree: &Expr) -> Result<(), AllocError> {
             over,
             ..
         } => {
-            write!(out, " {function:?}")?;
+            push_choice(out, function)?;
             push_head(out, operand.get())?;
-            write!(out, " by {}", offset.value)?;
+            push_number(out, "by", *offset)?;
             push_over(out, over)
         }
         Expr::Rank { over, .. } => push_over(out, over),
@@ -319,7 +322,7 @@ fn push_check(out: &mut String, tree: &Expr) -> Result<(), AllocError> {
         } => {
             push_head(out, operand.get())?;
             push_ruleset(out, ruleset, *ruleset_place)?;
-            write!(out, " {output:?}")
+            push_choice(out, output)
         }
         Expr::Hierarchy {
             operand,
@@ -334,7 +337,9 @@ fn push_check(out: &mut String, tree: &Expr) -> Result<(), AllocError> {
             push_head(out, operand.get())?;
             push_ruleset(out, ruleset, *ruleset_place)?;
             push_name(out, "rule", component)?;
-            write!(out, " {mode:?} {input:?} {output:?}")
+            push_choice(out, mode)?;
+            push_choice(out, input)?;
+            push_choice(out, output)
         }
         Expr::CheckHierarchy {
             operand,
@@ -349,7 +354,9 @@ fn push_check(out: &mut String, tree: &Expr) -> Result<(), AllocError> {
             push_head(out, operand.get())?;
             push_ruleset(out, ruleset, *ruleset_place)?;
             push_name(out, "rule", component)?;
-            write!(out, " {mode:?} {input:?} {output:?}")
+            push_choice(out, mode)?;
+            push_choice(out, input)?;
+            push_choice(out, output)
         }
         Expr::Check {
             operand,
@@ -363,7 +370,38 @@ fn push_check(out: &mut String, tree: &Expr) -> Result<(), AllocError> {
             push_name(out, "code", code)?;
             push_integer(out, "level", level)?;
             push_boxed(out, "imbalance", imbalance)?;
-            write!(out, " {output:?}")
+            push_choice(out, output)
+        }
+        _ => push_new_call(out, tree),
+    }
+}
+
+// Calls on time series, and of defined operators. A script that is read has no `Typed`.
+fn push_new_call(out: &mut String, tree: &Expr) -> Result<(), AllocError> {
+    match tree {
+        Expr::Time {
+            function,
+            operand,
+            ..
+        } => {
+            push_choice(out, function)?;
+            push_head(out, operand.get())
+        }
+        Expr::Timeshift { operand, shift, .. } => {
+            push_head(out, operand.get())?;
+            push_number(out, "by", *shift)
+        }
+        Expr::FillTimeSeries { operand, span, .. } => {
+            push_head(out, operand.get())?;
+            push_choice(out, span)
+        }
+        Expr::CallOf {
+            name,
+            arguments,
+            ..
+        } => {
+            push_word(out, name)?;
+            push_heads(out, arguments.as_slice())
         }
         _ => Ok(()),
     }

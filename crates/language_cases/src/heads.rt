@@ -1,7 +1,8 @@
 // Where the forms of a tree stand: the place and the name of a form, for one that is a part of another.
 use std::alloc::AllocError;
+use std::fmt::Debug;
 use vtl_syntax::Expr;
-use vtl_values::{Place, Value, Word};
+use vtl_values::{Integer, Place, Value, Word};
 
 /// `LINE:COLUMN `
 pub fn push_place(out: &mut String, place: Place) -> Result<(), AllocError> {
@@ -9,12 +10,44 @@ pub fn push_place(out: &mut String, place: Place) -> Result<(), AllocError> {
     write!(out, "{line}:{column} ")
 }
 
+/// ` LINE:COLUMN FORM`
+pub fn push_at(out: &mut String, place: Place, form: &str) -> Result<(), AllocError> {
+    out.push_str(" ")?;
+    push_place(out, place)?;
+    out.push_str(form)
+}
+
+/// ` CHOICE`, by the choice's own name.
+pub fn push_choice<T: Debug>(out: &mut String, choice: &T) -> Result<(), AllocError> {
+    write!(out, " {choice:?}")
+}
+
+/// ` WORD`
+pub fn push_word(out: &mut String, word: &Word) -> Result<(), AllocError> {
+    out.push_str(" ")?;
+    out.push_str(word.as_str())
+}
+
+/// ` LABEL NUMBER`
+pub fn push_number(out: &mut String, label: &str, integer: Integer) -> Result<(), AllocError> {
+    write!(out, " {label} {}", integer.value)
+}
+
 /// ` LABEL NAME`, or nothing.
 pub fn push_name(out: &mut String, label: &str, name: &Option<Word>) -> Result<(), AllocError> {
     match name {
-        Some(name) => write!(out, " {label} {}", name.as_str()),
+        Some(name) => {
+            push_label(out, label)?;
+            push_word(out, name)
+        }
         None => Ok(()),
     }
+}
+
+/// ` LABEL`
+pub fn push_label(out: &mut String, label: &str) -> Result<(), AllocError> {
+    out.push_str(" ")?;
+    out.push_str(label)
 }
 
 /// ` VALUE`
@@ -35,7 +68,7 @@ pub fn push_head(out: &mut String, tree: &Expr) -> Result<(), AllocError> {
     push_place(out, place)?;
     out.push_str(form)?;
     match tree {
-        Expr::Name { name, .. } => write!(out, " {}", name.as_str())?,
+        Expr::Name { name, .. } => push_word(out, name)?,
         Expr::Literal { value, .. } => push_value(out, value)?,
         _ => {}
     }
@@ -54,7 +87,7 @@ pub fn push_heads(out: &mut String, trees: &[Expr]) -> Result<(), AllocError> {
 pub fn push_optional(out: &mut String, label: &str, tree: Option<&Expr>) -> Result<(), AllocError> {
     match tree {
         Some(tree) => {
-            write!(out, " {label}")?;
+            push_label(out, label)?;
             push_head(out, tree)
         }
         None => Ok(()),
@@ -97,5 +130,10 @@ pub fn head(tree: &Expr) -> (Place, &'static str) {
         Expr::Hierarchy { place, .. } => (*place, "Hierarchy"),
         Expr::CheckHierarchy { place, .. } => (*place, "CheckHierarchy"),
         Expr::Check { place, .. } => (*place, "Check"),
+        Expr::Time { place, .. } => (*place, "Time"),
+        Expr::Timeshift { place, .. } => (*place, "Timeshift"),
+        Expr::FillTimeSeries { place, .. } => (*place, "FillTimeSeries"),
+        Expr::CallOf { place, .. } => (*place, "CallOf"),
+        Expr::Typed { place, .. } => (*place, "Typed"),
     }
 }

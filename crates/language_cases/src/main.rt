@@ -6,7 +6,7 @@
 //! - `tokens`: its tokens with their places;
 //! - `tree`: its forms with their places;
 //! - `script`: its printed text, and whether that is read back as a script of the same text;
-//! - `count`: how many statements and rulesets it has, of which it has some.
+//! - `count`: how many statements, rulesets and operators it has, of which it has some.
 #![tactic(auto)]
 
 mod answers;

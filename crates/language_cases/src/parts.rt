@@ -1,5 +1,5 @@
 // Parts of forms in which no expression stands.
-use crate::heads::{push_name, push_place, push_value};
+use crate::heads::{push_choice, push_name, push_place, push_value, push_word};
 use std::alloc::AllocError;
 use vtl_syntax::{Comp, Grouping, OrderItem, Over, Rename, SubItem, Variable};
 use vtl_values::Word;
@@ -7,7 +7,7 @@ use vtl_values::Word;
 /// ` NAME NAME ..`
 pub fn push_names(out: &mut String, names: &[Word]) -> Result<(), AllocError> {
     for name in names {
-        write!(out, " {}", name.as_str())?;
+        push_word(out, name)?;
     }
     Ok(())
 }
@@ -79,7 +79,7 @@ fn push_order(out: &mut String, items: &[OrderItem]) -> Result<(), AllocError> {
         push_place(out, item.place)?;
         out.push_str(item.name.as_str())?;
         if let Some(direction) = &item.direction {
-            write!(out, " {direction:?}")?;
+            push_choice(out, direction)?;
         }
         out.push_str(")")?;
     }

@@ -1,12 +1,14 @@
-// The tree of a script: a line for each statement, ruleset and rule.
+// The tree of a script: a line for each statement, ruleset, rule and operator.
 use crate::forms::push_form;
-use crate::heads::{push_head, push_name, push_optional, push_place};
+use crate::heads::{
+    push_choice, push_head, push_name, push_number, push_optional, push_place, push_word,
+};
 use crate::parts::push_variables;
 use anyhow::Result;
 use std::alloc::{AllocError, Global};
-use vtl_syntax::{DatapointRule, FaultPart, HierarchyRule, Ruleset, Script};
+use vtl_syntax::{DatapointRule, DefinedOperator, FaultPart, HierarchyRule, Ruleset, Script};
 
-/// The statements, and the rulesets with their rules.
+/// The statements, the rulesets with their rules, and the operators.
 pub fn tree(alloc: Global, script: &Script) -> Result<String> {
     let mut out = String::new(alloc);
     for statement in script.statements.as_slice() {
@@ -18,6 +20,9 @@ pub fn tree(alloc: Global, script: &Script) -> Result<String> {
     }
     for ruleset in script.rulesets.as_slice() {
         push_ruleset(&mut out, ruleset)?;
+    }
+    for operator in script.operators.as_slice() {
+        push_operator(&mut out, operator)?;
     }
     out.pop();
     Ok(out)
@@ -68,11 +73,12 @@ fn push_hierarchy_rule(out: &mut String, rule: &HierarchyRule) -> Result<(), All
     out.push_str("rule")?;
     push_name(out, "named", &rule.name)?;
     push_optional(out, "when", rule.condition.as_ref())?;
-    write!(out, " {} {:?}", rule.left.as_str(), rule.relation)?;
+    push_word(out, &rule.left)?;
+    push_choice(out, &rule.relation)?;
     if let Some(sign) = &rule.sign {
-        write!(out, " {sign:?}")?;
+        push_choice(out, sign)?;
     }
-    write!(out, " {}", rule.first.as_str())?;
+    push_word(out, &rule.first)?;
     for other in rule.others.as_slice() {
         out.push_str(" (")?;
         push_place(out, other.place)?;
@@ -87,7 +93,24 @@ fn push_fault(out: &mut String, fault: &FaultPart) -> Result<(), AllocError> {
     out.push_str("fault")?;
     push_name(out, "code", &fault.code)?;
     match &fault.level {
-        Some(level) => write!(out, " level {}", level.value),
+        Some(level) => push_number(out, "level", *level),
         None => Ok(()),
     }
+}
+
+fn push_operator(out: &mut String, operator: &DefinedOperator) -> Result<(), AllocError> {
+    push_place(out, operator.place)?;
+    write!(out, "operator {}", operator.name.as_str())?;
+    for param in operator.params.as_slice() {
+        out.push_str(" (")?;
+        push_place(out, param.place)?;
+        write!(out, "{} {:?})", param.name.as_str(), param.sort)?;
+    }
+    if let Some(sort) = &operator.returns {
+        out.push_str(" returns")?;
+        push_choice(out, sort)?;
+    }
+    out.push_str(" ")?;
+    push_form(out, &operator.body)?;
+    out.push_str("\n")
 }

@@ -230,10 +230,11 @@ script_of-IsChecked statements sums few = record {
   ordered = ordered statements sums;
 }
 
-few_then : (a b c : Bool) → (a && (b && c)) ≡ true → c ≡ true
-few_then true true c h = h
-few_then true false c h = cc
-few_then false b c h = cc
+few_then : (a b c d : Bool) → (a && (b && (c && d))) ≡ true → d ≡ true
+few_then true true true d h = h
+few_then true true false d h = cc
+few_then true false c d h = cc
+few_then false b c d h = cc
 
 -- each plain script is checked
 pub plain_script-IsChecked : (tree : raw.Script) (s : Script) → plain_script tree ≡ Some s → IsChecked s
@@ -241,6 +242,6 @@ plain_script-IsChecked tree s e =
     let p = some_if (has_few tree) (option_map script_of (statements_of [] tree.statements)) s e in
     let q = some_map script_of (statements_of [] tree.statements) s p.1 in
     let all = statements_of-sums [] tree.statements q.0 AreSums-none q.1 in
-    let within = few_then (nat_eq (length tree.rulesets) 0) (nat_lt 0 (length tree.statements)) (nat_le (length tree.statements) MOST_STATEMENTS) p.0 in
+    let within = few_then (nat_eq (length tree.rulesets) 0) (nat_eq (length tree.operators) 0) (nat_lt 0 (length tree.statements)) (nat_le (length tree.statements) MOST_STATEMENTS) p.0 in
     let few : length q.0 ≤ 256 = grind (arith, nat_tests, within, all.1) in
     subst IsChecked q.2 (script_of-IsChecked q.0 all.0 few)

@@ -24,9 +24,9 @@ statements_of before (s ∷ ss) =
 abbrev pub script_of : List CheckedStatement → Script
 script_of statements = record { inputs = STRUCTURES; statements = statements; order = range_with_len 0 (length statements) }
 
--- from 1 to 256 statements, and no ruleset
+-- from 1 to 256 statements, and no rulesets and no operators
 abbrev pub has_few : raw.Script → Bool
-has_few s = nat_eq (length s.rulesets) 0 && (nat_lt 0 (length s.statements) && nat_le (length s.statements) MOST_STATEMENTS)
+has_few s = nat_eq (length s.rulesets) 0 && (nat_eq (length s.operators) 0 && (nat_lt 0 (length s.statements) && nat_le (length s.statements) MOST_STATEMENTS))
 
 -- the script that a tree stands for
 abbrev pub plain_script : raw.Script → Option Script

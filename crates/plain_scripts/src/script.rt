@@ -34,7 +34,10 @@ fn has_few(script: &Script) -> bool
     ensures { result ≡ has_few script.now }
 {
     let count = script.statements.len();
-    script.rulesets.len() == 0 && 0 < count && count <= MOST_STATEMENTS
+    script.rulesets.len() == 0
+        && script.operators.len() == 0
+        && 0 < count
+        && count <= MOST_STATEMENTS
 }
 
 // The statements of the trees, each read after those before it.

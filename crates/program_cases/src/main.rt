@@ -39,7 +39,7 @@ fn run_case<R: AllocGlobal + Print + Threads + Wait + Sync>(rt: &R, setup: Setup
         faults: 0,
     };
     let outcome = run_vtlprod(rt, &setup.words, &mut shelf, &mut sink, &OpenGate);
-    let (title, status) = (setup.title.as_str(), outcome.status);
+    let (title, status) = (setup.title.as_str(), outcome.into_status());
     println!(rt; "==== {title}\nstatus {status}")?;
     let taken = str::from_utf8(sink.taken.as_slice())?;
     print!(rt; "{taken}")?;

@@ -1,3 +1,5 @@
 pub mod Limits
 pub mod Views
 pub mod Plain
+pub mod Lists
+pub mod Faults

@@ -3,7 +3,7 @@ ghost use Rattle.std.specs.Prelude.{◌≡◌, ◌+◌, ◌<◌, ◌≤◌, leng
 ghost use Rattle.vtl_cursor.specs.Limits.{most};
 
 use crate::mark::{Mark, mark_in};
-use crate::same::{is_sign, is_word};
+use crate::same::{is_name, is_sign, is_word};
 use crate::stop::{Kind, Stop};
 use vtl_tokens::{Keyword, Sign, Token, TokenKind};
 use vtl_values::{Decimal, Integer, Place, Word};
@@ -29,7 +29,7 @@ pub struct Number {
     pub place: Place,
 }
 
-/// The tokens that are still to be read, without the `End` behind them.
+/// The tokens that are still to be read, without the `End` after them.
 #[derive(Clone, Copy)]
 pub struct Cursor<'a> {
     pub tokens: &'a [Token],
@@ -189,16 +189,7 @@ impl<'a> Cursor<'a> {
     pub fn is_name(&self) -> bool
         ensures { result ≡ starts (0 ∷ []) self.now.tokens.now }
     {
-        matches!(
-            self.tokens,
-            [
-                Token {
-                    what: TokenKind::Name(_),
-                    place: _
-                },
-                ..
-            ]
-        )
+        matches!(self.tokens, [first, ..] if is_name(&first.what))
     }
 
     /// Whether an integer stands there.
@@ -253,40 +244,14 @@ impl<'a> Cursor<'a> {
     pub fn is_label(&self) -> bool
         ensures { result ≡ has_prefix label self.now.tokens.now }
     {
-        matches!(
-            self.tokens,
-            [
-                Token {
-                    what: TokenKind::Name(_),
-                    place: _
-                },
-                Token {
-                    what: TokenKind::Sign(Sign::Colon),
-                    place: _
-                },
-                ..
-            ]
-        )
+        matches!(self.tokens, [first, second, ..] if is_name(&first.what) && is_sign(&second.what, Sign::Colon))
     }
 
     /// Whether the word `rule` and a name stand there.
     pub fn is_component(&self) -> bool
         ensures { result ≡ has_prefix component self.now.tokens.now }
     {
-        matches!(
-            self.tokens,
-            [
-                Token {
-                    what: TokenKind::Reserved(Keyword::Rule),
-                    place: _
-                },
-                Token {
-                    what: TokenKind::Name(_),
-                    place: _
-                },
-                ..
-            ]
-        )
+        matches!(self.tokens, [first, second, ..] if is_word(&first.what, Keyword::Rule) && is_name(&second.what))
     }
 
     /// The place of the next token; none is at the end.
@@ -309,7 +274,7 @@ impl<'a> Cursor<'a> {
         }
     }
 
-    /// Goes on behind the next token.
+    /// Goes on after the next token.
     pub fn skip(&mut self)
         ensures { self.new.tokens.now ≡ drop 1 self.old.tokens.now }
     {

@@ -1,10 +1,11 @@
-// Whether a token is a certain reserved word, or a certain sign.
+// Whether a token is a certain reserved word, a certain sign, or a name.
 ghost use Rattle.std.specs.Prelude.{◌≡◌, nat_eq};
 ghost use Rattle.vtl_grammar.specs.Marks.{key, sign, of_mark, sort_of};
 
 use vtl_tokens::{Keyword, Sign, TokenKind};
 
-pub(crate) fn is_word(kind: &TokenKind, wanted: Keyword) -> bool
+/// Whether a token is that reserved word.
+pub fn is_word(kind: &TokenKind, wanted: Keyword) -> bool
     ensures { result ≡ nat_eq (sort_of kind.now) (of_mark (key wanted)) }
 {
     match kind {
@@ -22,7 +23,14 @@ pub(crate) fn is_sign(kind: &TokenKind, wanted: Sign) -> bool
     }
 }
 
-fn is_same_word(word: Keyword, wanted: Keyword) -> bool
+pub(crate) fn is_name(kind: &TokenKind) -> bool
+    ensures { result ≡ nat_eq (sort_of kind.now) 0 }
+{
+    matches!(kind, TokenKind::Name(_))
+}
+
+/// Whether the two are the same reserved word.
+pub fn is_same_word(word: Keyword, wanted: Keyword) -> bool
     ensures { result ≡ nat_eq (of_mark (key word)) (of_mark (key wanted)) }
 {
     word == wanted

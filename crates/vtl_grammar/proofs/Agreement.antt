@@ -5,20 +5,25 @@ use Rattle.std.specs.Prelude.{nat_lt, nat_le, ◌&&◌}
 use Rattle.vtl_tokens.specs.declared.token.Token.{Token}
 use Rattle.vtl_syntax.specs.declared.expr.Expr.{Expr}
 use Rattle.vtl_grammar.specs.Marks.{Mark, Tokens, mark_in}
-use Rattle.vtl_grammar.specs.Rules.{Counts, Limit, Rule, mark, name, integer, number, text, part, ◌▸◌, option, suffix, either, repeated, prefixed, here, Part, OfPart, expression, clause, Slot, Of, first_place}
-use Rattle.vtl_grammar.specs.Clauses.{slot_rule, slot_tree}
+use Rattle.vtl_grammar.specs.Rules.{Counts, Limit, Rule, mark, name, integer, number, text, part, ◌▸◌, option, suffix, either, repeated, prefixed, here, Part, OfPart, expression, clause, JoinPart, Of, first_place}
+use Rattle.vtl_grammar.specs.Clauses.{join_part_rule, join_part_tree}
 use Rattle.vtl_grammar.specs.Calls.{Form}
-use Rattle.vtl_grammar.specs.Forms.{Tail, tail_of, leaf_in, top}
-use Rattle.vtl_grammar.specs.Reading.{Kind, Expected, TooDeep, TooMany, Got, Read, Reader, halt, got, ◌>>=◌, mapped, both, cons, some, maybe, starts, firsts, slot_heads, read_more, has_prefix, read_prefix, with_some, with_none, read, Front, form_at, tail_at, between, front_by, read_front, tail_by, read_tails, read_expr, read_slot, read_part, no_part, part_at}
+use Rattle.vtl_grammar.specs.Forms.{Tail, tail_of, leaf_in, leaf_precedence}
+use Rattle.vtl_grammar.specs.Scripts.{PieceKind, limit_of}
+use Rattle.vtl_grammar.specs.Reading.{Kind, Expected, TooDeep, TooMany, Got, Read, Reader, halt, got, ◌>>=◌, mapped, both, cons, some, maybe, starts, firsts, join_part_firsts, read_more, has_prefix, read_prefix, with_some, with_none, read, Front, form_at, tail_at, between, front_by, read_front, tail_by, read_tails, read_expr, read_join_part, read_part, no_part, part_at}
 use Rattle.vtl_grammar.proofs.Explained.{IsMore}
 use Rattle.vtl_grammar.proofs.PartLaws.{tail-low, front-low, front-low-none}
 
+-- there may be as many pieces of each kind
+abbrev pub SamePieces : Counts → Counts → Type 0
+SamePieces L L' = (k : PieceKind) → L (limit_of k) ≡ L' (limit_of k)
+
 module _ (L L' : Counts) (more : IsMore L L') (D : Type 0) where
-  -- the limit that is passed is the same; D says that of levels
+  -- the limit that is passed is the same, and those of pieces; D says that of levels
   abbrev pub IsSame : Kind → Type 0
   IsSame Expected = Unit {0}
   IsSame TooDeep = D
-  IsSame (TooMany j) = L j ≡ L' j
+  IsSame (TooMany j) = (L j ≡ L' j) × SamePieces L L'
 
   -- the second answers as the first, unless the first passes a limit that is higher for the second
   abbrev pub Agrees : {A : Type 0} → Read A → Read A → Type 0
@@ -48,7 +53,7 @@ module _ (L L' : Counts) (more : IsMore L L') (D : Type 0) where
 
   more-agrees : {A : Type 0} (ks : List ℕ) (l : Limit) (r r' : Reader A) → ((ts : Tokens) → Agrees (r ts) (r' ts)) → (n n' : ℕ) → n ≤ n' → (L l ≡ L' l → n ≡ n') → (ts : Tokens) → Agrees (read_more ks l r n ts) (read_more ks l r' n' ts)
   more-agrees ks l r r' law zero zero le same ts = cond-agrees (starts ks ts) (halt (TooMany l) ts) (halt (TooMany l) ts) (got [] 0 ts) (got [] 0 ts) (λ s. refl) refl
-  more-agrees ks l r r' law zero (suc n') le same ts = cond-agrees (starts ks ts) (halt (TooMany l) ts) (mapped cons (both r' (read_more ks l r' n') ts)) (got [] 0 ts) (got [] 0 ts) (λ s. let e : 0 ≡ suc n' = same s in absurd (omega arith)) refl
+  more-agrees ks l r r' law zero (suc n') le same ts = cond-agrees (starts ks ts) (halt (TooMany l) ts) (mapped cons (both r' (read_more ks l r' n') ts)) (got [] 0 ts) (got [] 0 ts) (λ s. let e : 0 ≡ suc n' = same s.0 in absurd (omega arith)) refl
   more-agrees ks l r r' law (suc n) zero le same ts = absurd (omega arith)
   more-agrees ks l r r' law (suc n) (suc n') le same ts = cond-agrees (starts ks ts) (mapped cons (both r (read_more ks l r n) ts)) (mapped cons (both r' (read_more ks l r' n') ts)) (got [] 0 ts) (got [] 0 ts)
       (mapped-agrees cons (both r (read_more ks l r n) ts) (both r' (read_more ks l r' n') ts) (both-agrees r r' (read_more ks l r n) (read_more ks l r' n') ts (law ts) (λ us. more-agrees ks l r r' law n n' (omega arith) (λ e. let f = same e in omega arith) us)))
@@ -91,11 +96,11 @@ module _ (L L' : Counts) (more : IsMore L L') (D : Type 0) where
   module _ (inner inner' : (q : Part) → Reader (OfPart q)) (d d' : ℕ) (le : d ≤ d') (same : D → d ≡ d') (rules : 0 < d → (g : Rule) (ts : Tokens) → Agrees (read L inner g ts) (read L' inner' g ts))
       (low : 0 < d → (m : Mark) (tail : Tail) → tail_of m ≡ Some tail → (ts : Tokens) (v : Got (Of tail.rule)) → read L inner tail.rule ts ≡ Ok v → v.levels < d) where
     front-agrees : (m : ℕ) (t : Token) (ts : Tokens) (o : Option Expr) (f : Option Form) → Agrees (front_by L inner d m t ts o f) (front_by L' inner' d' m t ts o f)
-    front-agrees m t ts (Some e) f = refl
+    front-agrees m t ts (Some e) f = cond-agrees (nat_le m (leaf_precedence t.what)) (got (record { expr = e; precedence = leaf_precedence t.what }) 0 ts) (got (record { expr = e; precedence = leaf_precedence t.what }) 0 ts) (halt Expected (t ∷ ts)) (halt Expected (t ∷ ts)) refl (λ s. refl)
     front-agrees m t ts None None = λ s. refl
-    front-agrees m t ts None (Some form) = cond-agrees (nat_le m form.level) _ _ (halt Expected (t ∷ ts)) (halt Expected (t ∷ ts))
-        (room-agrees 0 d d' le same (read L inner form.rule ts >>= λ v. got (record { expr = form.tree v.value t.place; level = form.level }) (suc v.levels) v.rest) (read L' inner' form.rule ts >>= λ v. got (record { expr = form.tree v.value t.place; level = form.level }) (suc v.levels) v.rest) (t ∷ ts)
-        (λ lt. then-agrees (λ v. got (record { expr = form.tree v.value t.place; level = form.level }) (suc v.levels) v.rest) (λ v. got (record { expr = form.tree v.value t.place; level = form.level }) (suc v.levels) v.rest) (read L inner form.rule ts) (read L' inner' form.rule ts) (λ a is. refl) (rules lt form.rule ts))
+    front-agrees m t ts None (Some form) = cond-agrees (nat_le m form.precedence) _ _ (halt Expected (t ∷ ts)) (halt Expected (t ∷ ts))
+        (room-agrees 0 d d' le same (read L inner form.rule ts >>= λ v. got (record { expr = form.tree v.value t.place; precedence = form.precedence }) (suc v.levels) v.rest) (read L' inner' form.rule ts >>= λ v. got (record { expr = form.tree v.value t.place; precedence = form.precedence }) (suc v.levels) v.rest) (t ∷ ts)
+        (λ lt. then-agrees (λ v. got (record { expr = form.tree v.value t.place; precedence = form.precedence }) (suc v.levels) v.rest) (λ v. got (record { expr = form.tree v.value t.place; precedence = form.precedence }) (suc v.levels) v.rest) (read L inner form.rule ts) (read L' inner' form.rule ts) (λ a is. refl) (rules lt form.rule ts))
         (nat_lt 0 d) (nat_lt 0 d') refl refl)
         (λ s. refl)
 
@@ -114,7 +119,7 @@ module _ (L L' : Counts) (more : IsMore L L') (D : Type 0) where
 
     at_table : (m level : ℕ) (o : Option Tail) → InTable o → InTable (between m level o)
     at_table m level None i = tt
-    at_table m level (Some tail) i = by_fit (nat_le m tail.level && nat_le tail.level level)
+    at_table m level (Some tail) i = by_fit (nat_le m tail.precedence && nat_le tail.operand level)
       where
         by_fit : (b : Bool) → InTable (cond b (Some tail) None)
         by_fit true = i
@@ -132,8 +137,8 @@ module _ (L L' : Counts) (more : IsMore L L') (D : Type 0) where
     tail-agrees m n n' rest f h t ts top a b None i = refl
     tail-agrees m n n' rest f h t ts top a b (Some tail) i =
         room-agrees h d d' le same _ _ (t ∷ ts)
-        (λ lt. then-agrees (λ v. read_tails L inner d m n (record { expr = tail.tree f.expr v.value t.place; level = tail.level }) (suc (max h v.levels)) v.rest) (λ v. read_tails L' inner' d' m n' (record { expr = tail.tree f.expr v.value t.place; level = tail.level }) (suc (max h v.levels)) v.rest) (read L inner tail.rule ts) (read L' inner' tail.rule ts)
-        (λ v is. let few : v.levels < d = low (omega arith) i.0 tail i.1 ts v is in rest (record { expr = tail.tree f.expr v.value t.place; level = tail.level }) (suc (max h v.levels)) v.rest (omega arith) (omega arith) (omega arith))
+        (λ lt. then-agrees (λ v. read_tails L inner d m n (record { expr = tail.tree f.expr v.value t.place; precedence = tail.precedence }) (suc (max h v.levels)) v.rest) (λ v. read_tails L' inner' d' m n' (record { expr = tail.tree f.expr v.value t.place; precedence = tail.precedence }) (suc (max h v.levels)) v.rest) (read L inner tail.rule ts) (read L' inner' tail.rule ts)
+        (λ v is. let few : v.levels < d = low (omega arith) i.0 tail i.1 ts v is in rest (record { expr = tail.tree f.expr v.value t.place; precedence = tail.precedence }) (suc (max h v.levels)) v.rest (omega arith) (omega arith) (omega arith))
         (rules (omega arith) tail.rule ts))
         (nat_lt h d) (nat_lt h d') refl refl
 
@@ -141,7 +146,7 @@ module _ (L L' : Counts) (more : IsMore L L') (D : Type 0) where
     tails-agree m zero n' f h ts top a b = absurd (omega arith)
     tails-agree m (suc n) zero f h ts top a b = absurd (omega arith)
     tails-agree m (suc n) (suc n') f h [] top a b = refl
-    tails-agree m (suc n) (suc n') f h (t ∷ ts) top a b = tail-agrees m n n' (λ g k us x y z. tails-agree m n n' g k us x y z) f h t ts top a b (between m f.level (tail_at (mark_in t.what))) (at_table m f.level (tail_at (mark_in t.what)) (of_mark_in (mark_in t.what)))
+    tails-agree m (suc n) (suc n') f h (t ∷ ts) top a b = tail-agrees m n n' (λ g k us x y z. tails-agree m n n' g k us x y z) f h t ts top a b (between m f.precedence (tail_at (mark_in t.what))) (at_table m f.precedence (tail_at (mark_in t.what)) (of_mark_in (mark_in t.what)))
 
     -- a front has no more levels than there may be
     abbrev IsLow : Read Front → Type 0
@@ -152,10 +157,10 @@ module _ (L L' : Counts) (more : IsMore L L') (D : Type 0) where
     expr-agrees m ts low_front = then-agrees (λ f. read_tails L inner d m (suc d) f.value f.levels f.rest) (λ f. read_tails L' inner' d' m (suc d') f.value f.levels f.rest) (read_front L inner d m ts) (read_front L' inner' d' m ts)
         (λ f is. let few : f.levels ≤ d = subst IsLow is low_front in tails-agree m (suc d) (suc d') f.value f.levels f.rest few (omega arith) (omega arith)) (read_front-agrees m ts)
 
-    slot-agrees : (k : Slot) (ts : Tokens) → Agrees (read_slot L inner d k ts) (read_slot L' inner' d' k ts)
-    slot-agrees k ts = cond-agrees (starts (slot_heads k) ts) _ _ (halt Expected ts) (halt Expected ts)
-        (room-agrees 0 d d' le same (read L inner (slot_rule k) ts >>= λ v. got (slot_tree k v.value) (suc v.levels) v.rest) (read L' inner' (slot_rule k) ts >>= λ v. got (slot_tree k v.value) (suc v.levels) v.rest) ts
-        (λ lt. then-agrees (λ v. got (slot_tree k v.value) (suc v.levels) v.rest) (λ v. got (slot_tree k v.value) (suc v.levels) v.rest) (read L inner (slot_rule k) ts) (read L' inner' (slot_rule k) ts) (λ a is. refl) (rules lt (slot_rule k) ts))
+    join_part-agrees : (k : JoinPart) (ts : Tokens) → Agrees (read_join_part L inner d k ts) (read_join_part L' inner' d' k ts)
+    join_part-agrees k ts = cond-agrees (starts (join_part_firsts k) ts) _ _ (halt Expected ts) (halt Expected ts)
+        (room-agrees 0 d d' le same (read L inner (join_part_rule k) ts >>= λ v. got (join_part_tree k v.value) (suc v.levels) v.rest) (read L' inner' (join_part_rule k) ts >>= λ v. got (join_part_tree k v.value) (suc v.levels) v.rest) ts
+        (λ lt. then-agrees (λ v. got (join_part_tree k v.value) (suc v.levels) v.rest) (λ v. got (join_part_tree k v.value) (suc v.levels) v.rest) (read L inner (join_part_rule k) ts) (read L' inner' (join_part_rule k) ts) (λ a is. refl) (rules lt (join_part_rule k) ts))
         (nat_lt 0 d) (nat_lt 0 d') refl refl)
         (λ s. refl)
 
@@ -165,7 +170,7 @@ module _ (L L' : Counts) (more : IsMore L L') (D : Type 0) where
 
     part-agree : ((m : ℕ) (ts : Tokens) (f : Got Front) → read_front L inner d m ts ≡ Ok f → f.levels ≤ d) → (q : Part) (ts : Tokens) → Agrees (read_part L inner d q ts) (read_part L' inner' d' q ts)
     part-agree fronts (expression m) ts = expr-agrees m ts (is_low (read_front L inner d m ts) (fronts m ts))
-    part-agree fronts (clause k) ts = slot-agrees k ts
+    part-agree fronts (clause k) ts = join_part-agrees k ts
 
   pub parts-agree : (d d' : ℕ) → d ≤ d' → (D → d ≡ d') → (q : Part) (ts : Tokens) → Agrees (part_at L d q ts) (part_at L' d' q ts)
   parts-agree zero zero le same q ts = part-agree no_part no_part 0 0 le same (λ lt. absurd (omega arith)) (λ lt. absurd (omega arith)) (front-low-none L) q ts

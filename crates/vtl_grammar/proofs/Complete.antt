@@ -1,4 +1,4 @@
--- What is spelled by a rule is read by it, where what comes behind doesn't go on with it.
+-- What is spelled by a rule is read by it, where what comes after doesn't go on with it.
 use Rattle.std.proofs.Common.{◌≡◌, ℕ, zero, suc, ◌≤◌, max, List, [], ◌∷◌, ◌++◌, Bool, true, false, not, cond, Some, None, ◌⊎◌, inl, inr, refl, sym, ap, subst, ◌∙◌, append_assoc, arith}
 use Rattle.std.proofs.lemmas.Bool.{eqb-true, eq-eqb, leb-true, le-leb}
 use Rattle.std.specs.Prelude.{nat_eq, nat_le, if◌then◌else◌, ◌&&◌, ◌||◌}
@@ -7,11 +7,11 @@ use Rattle.vtl_tokens.specs.declared.token.Token.{Token}
 use Rattle.vtl_tokens.specs.declared.keyword.Keyword.TheVariants as words
 use Rattle.vtl_tokens.specs.declared.sign.Sign.TheVariants as signs
 use Rattle.vtl_grammar.specs.Marks.{Mark, key, sign, Tokens, at, kind_of, of_mark, sort_of}
-use Rattle.vtl_grammar.specs.Rules.{Counts, Rule, mark, name, integer, number, text, part, ◌▸◌, option, suffix, either, repeated, prefixed, here, Prefix, label, component, Part, OfPart, expression, clause, Slot, Of, At, Text, prefix_tokens, Spells, SpellsMore}
-use Rattle.vtl_grammar.specs.Clauses.{slot_rule}
+use Rattle.vtl_grammar.specs.Rules.{Counts, Rule, mark, name, integer, number, text, part, ◌▸◌, option, suffix, either, repeated, prefixed, here, Prefix, label, component, Part, OfPart, expression, clause, JoinPart, Of, At, Text, prefix_tokens, Spells, SpellsMore}
+use Rattle.vtl_grammar.specs.Clauses.{join_part_rule}
 use Rattle.vtl_grammar.specs.Expressions.{Spelled}
 use Rattle.vtl_grammar.specs.Forms.{top}
-use Rattle.vtl_grammar.specs.Reading.{Reader, got, mapped, both, choice, member, starts, firsts, part_heads, first_sort, second_sort, read_mark}
+use Rattle.vtl_grammar.specs.Reading.{Reader, got, mapped, both, choice, member, starts, firsts, part_firsts, first_sort, second_sort, read_mark}
 use Rattle.vtl_grammar.proofs.Sorts.{by_test, nat_eq-refl, member-left, member-right}
 use Rattle.vtl_grammar.proofs.Spellings.{Spells-no_tokens}
 
@@ -27,20 +27,20 @@ Begins ks us = starts ks us ≡ true
 abbrev pub IsReadAs : {A : Type 0} → Reader A → ℕ → A → Tokens → Tokens → Type 0
 IsReadAs r k x us rest = (h : ℕ) × (h ≤ k) × (r (us ++ rest) ≡ got x h rest)
 
--- what S spells with k levels r reads, where no token of ks comes behind
+-- what S spells with k levels r reads, where no token of ks comes after
 abbrev pub Reads : {A : Type 0} → Reader A → (A → Tokens → Type 0) → ℕ → List ℕ → Type 0
 Reads {A = A} r S k ks = (x : A) (us rest : Tokens) → S x us → Stops ks rest → IsReadAs r k x us rest
 
--- ---- sorts that go on behind an expression
+-- ---- sorts that go on after an expression
 
 abbrev pub Row : Type 0
 Row = ℕ × ℕ
 
--- the level and the sort of each form that goes on
+-- the precedence and the sort of each form that goes on
 abbrev pub all_tails : List Row
-all_tails = (1, of_mark (key words.Or)) ∷ (1, of_mark (key words.Xor)) ∷ (2, of_mark (key words.And)) ∷ (3, of_mark (sign signs.Equal)) ∷ (3, of_mark (sign signs.NotEqual)) ∷ (3, of_mark (sign signs.LessThan)) ∷ (3, of_mark (sign signs.GreaterThan)) ∷ (3, of_mark (sign signs.AtMost)) ∷ (3, of_mark (sign signs.AtLeast)) ∷ (3, of_mark (key words.In)) ∷ (3, of_mark (key words.NotIn)) ∷ (4, of_mark (sign signs.Plus)) ∷ (4, of_mark (sign signs.Minus)) ∷ (4, of_mark (sign signs.Bars)) ∷ (5, of_mark (sign signs.Star)) ∷ (5, of_mark (sign signs.Slash)) ∷ (7, of_mark (sign signs.Hash)) ∷ (7, of_mark (sign signs.LeftBracket)) ∷ []
+all_tails = (1, of_mark (key words.Or)) ∷ (1, of_mark (key words.Xor)) ∷ (2, of_mark (key words.And)) ∷ (3, of_mark (sign signs.Equal)) ∷ (3, of_mark (sign signs.NotEqual)) ∷ (3, of_mark (sign signs.LessThan)) ∷ (3, of_mark (sign signs.GreaterThan)) ∷ (3, of_mark (sign signs.AtMost)) ∷ (3, of_mark (sign signs.AtLeast)) ∷ (3, of_mark (key words.In)) ∷ (3, of_mark (key words.NotIn)) ∷ (4, of_mark (sign signs.Plus)) ∷ (4, of_mark (sign signs.Minus)) ∷ (4, of_mark (sign signs.Bars)) ∷ (5, of_mark (sign signs.Star)) ∷ (5, of_mark (sign signs.Slash)) ∷ (7, of_mark (sign signs.LeftParen)) ∷ (7, of_mark (sign signs.Hash)) ∷ (7, of_mark (sign signs.LeftBracket)) ∷ []
 
--- those of a level or a higher one
+-- those of a precedence or a higher one
 abbrev pub at_least : ℕ → List Row → List ℕ
 at_least m [] = []
 at_least m (r ∷ rs) = if nat_le m r.0 then r.1 ∷ at_least m rs else at_least m rs
@@ -48,7 +48,7 @@ at_least m (r ∷ rs) = if nat_le m r.0 then r.1 ∷ at_least m rs else at_least
 abbrev pub tail_sorts : ℕ → List ℕ
 tail_sorts m = at_least m all_tails
 
--- those of a higher level are those of a lower one
+-- those of a higher precedence are those of a lower one
 pub at_least-lower : (m q k : ℕ) (rs : List Row) → m ≤ q → member k (at_least q rs) ≡ true → member k (at_least m rs) ≡ true
 at_least-lower m q k [] le e = absurd cc
 at_least-lower m q k (r ∷ rs) le e = by_test (λ t. member k (cond t (r.1 ∷ at_least q rs) (at_least q rs)) ≡ true → member k (at_least m (r ∷ rs)) ≡ true) (nat_le q r.0)
@@ -134,7 +134,7 @@ pub Begins-right : (js ks : List ℕ) (us : Tokens) → Begins ks us → Begins 
 Begins-right js ks [] b = absurd cc
 Begins-right js ks (u ∷ us) b = member-right (sort_of u.what) js ks b
 
--- ---- one behind the other
+-- ---- one after the other
 
 module _ {A B : Type 0} (r : Reader A) (q : Reader B) (S : A → Tokens → Type 0) (Q : B → Tokens → Type 0) (k : ℕ) (js ks : List ℕ) (r-reads : Reads r S k js) (q-reads : Reads q Q k ks)
     (between : (y : B) (us rest : Tokens) → Q y us → Stops ks rest → Stops js (us ++ rest)) where
@@ -169,7 +169,7 @@ mark_itself (sign s) = nat_eq-refl (of_mark (sign s))
 pub mark-reads : (m : Mark) (k : ℕ) → Reads (read_mark m) (λ p us. us ≡ at (kind_of m) p ∷ []) k []
 mark-reads m k p us rest s stop = (0, omega arith, ap (λ (ts : Tokens). read_mark m (ts ++ rest)) s ∙ (let e = mark_itself m in rw e refl))
 
--- ---- what goes on behind a rule
+-- ---- what goes on after a rule
 
 -- one token of that sort may be the whole
 abbrev pub single : ℕ → Rule → Bool
@@ -187,30 +187,30 @@ single k (repeated l g h) = single k g
 single k (prefixed p g) = single k g
 single k (here g) = single k g
 
--- of clauses in joins it is said by `slots`
-abbrev pub ends_by : (Slot → List ℕ) → Rule → List ℕ
-ends_by slots (mark m) = []
-ends_by slots name = []
-ends_by slots integer = []
-ends_by slots number = []
-ends_by slots text = []
-ends_by slots (part (expression m)) = tail_sorts m
-ends_by slots (part (clause c)) = slots c
-ends_by slots (g ▸ h) = ends_by slots h
-ends_by slots (option g h) = ends_by slots h
-ends_by slots (suffix g h) = firsts h ++ (ends_by slots g ++ ends_by slots h)
-ends_by slots (either g h) = ends_by slots g ++ ends_by slots h
-ends_by slots (repeated l g h) = firsts h ++ (ends_by slots g ++ ends_by slots h)
-ends_by slots (prefixed p g) = (if single (first_sort p) g then second_sort p ∷ [] else []) ++ ends_by slots g
-ends_by slots (here g) = ends_by slots g
+-- of clauses in joins it is said by `join_parts`
+abbrev pub ends_by : (JoinPart → List ℕ) → Rule → List ℕ
+ends_by join_parts (mark m) = []
+ends_by join_parts name = []
+ends_by join_parts integer = []
+ends_by join_parts number = []
+ends_by join_parts text = []
+ends_by join_parts (part (expression m)) = tail_sorts m
+ends_by join_parts (part (clause c)) = join_parts c
+ends_by join_parts (g ▸ h) = ends_by join_parts h
+ends_by join_parts (option g h) = ends_by join_parts h
+ends_by join_parts (suffix g h) = firsts h ++ (ends_by join_parts g ++ ends_by join_parts h)
+ends_by join_parts (either g h) = ends_by join_parts g ++ ends_by join_parts h
+ends_by join_parts (repeated l g h) = firsts h ++ (ends_by join_parts g ++ ends_by join_parts h)
+ends_by join_parts (prefixed p g) = (if single (first_sort p) g then second_sort p ∷ [] else []) ++ ends_by join_parts g
+ends_by join_parts (here g) = ends_by join_parts g
 
-abbrev pub slot_ends : Slot → List ℕ
-slot_ends c = ends_by (λ c. []) (slot_rule c)
+abbrev pub join_part_ends : JoinPart → List ℕ
+join_part_ends c = ends_by (λ c. []) (join_part_rule c)
 
 abbrev pub ends : Rule → List ℕ
-ends g = ends_by slot_ends g
+ends g = ends_by join_part_ends g
 
--- the sorts that may stand second, behind the first token of a prefix
+-- the sorts that may stand second, after the first token of a prefix
 abbrev pub part_seconds : Prefix → Part → List ℕ
 part_seconds label (expression m) = tail_sorts 0
 part_seconds label (clause c) = []
@@ -269,7 +269,7 @@ prefix-begins : (p : Prefix) (l : At Text) (q : Place) (b : Tokens) (ks : List �
 prefix-begins label l q b ks = refl
 prefix-begins component l q b ks = refl
 
-module _ (L : Counts) (T : Spelled) (T-begins : (q : Part) (e : OfPart q) (us : Tokens) → T q e us → Begins (part_heads q) us) where
+module _ (L : Counts) (T : Spelled) (T-begins : (q : Part) (e : OfPart q) (us : Tokens) → T q e us → Begins (part_firsts q) us) where
   pub rule-begins : (g : Rule) (v : Of g) (us : Tokens) → Spells L T g v us → Begins (firsts g) us
   rule-begins (mark m) v us s = subst (λ (ts : Tokens). Begins (firsts (mark m)) ts) (sym s) (mark-begins m [])
   rule-begins name v us s = subst (λ (ts : Tokens). Begins (firsts name) ts) (sym s) refl
@@ -360,7 +360,7 @@ module _ (L : Counts) (T : Spelled) (some : (q : Part) (e : OfPart q) → T q e 
   more-begins A S ks begins zero (x ∷ xs) u us s = absurd s
   more-begins A S ks begins (suc n) (x ∷ xs) u us (a, b, parts, s, ss) = subst (λ (ts : Tokens). Begins ks ts) (sym parts) (Begins-append ks a b (begins x a s))
 
-  module _ (p : Prefix) (T-begins : (q : Part) (e : OfPart q) (us : Tokens) → T q e us → Begins (part_heads q) us)
+  module _ (p : Prefix) (T-begins : (q : Part) (e : OfPart q) (us : Tokens) → T q e us → Begins (part_firsts q) us)
       (T-second : (q : Part) (e : OfPart q) (t u : Token) (us : Tokens) → T q e (t ∷ u ∷ us) → sort_of t.what ≡ first_sort p → member (sort_of u.what) (part_seconds p q) ≡ true)
       (t u : Token) (is : sort_of t.what ≡ first_sort p) where
     abbrev after : Rule → Rule → List ℕ

@@ -8,16 +8,16 @@ use Rattle.vtl_grammar.specs.Marks.{Tokens, sort_of}
 use Rattle.vtl_grammar.specs.Rules.{Counts, Limit, Rule, mark, name, integer, number, text, part, ◌▸◌, option, suffix, either, repeated, prefixed, here, Prefix, label, component, Part, OfPart, expression, clause, Of, At, Text, first_place, prefix_tokens, Spells, SpellsMore}
 use Rattle.vtl_grammar.specs.Forms.{top}
 use Rattle.vtl_grammar.specs.Expressions.{Spelled}
-use Rattle.vtl_grammar.specs.Reading.{Reader, got, mapped, both, cons, some, member, firsts, part_heads, first_sort, second_sort, read_more, has_prefix, with_some, with_none, read}
+use Rattle.vtl_grammar.specs.Reading.{Reader, got, mapped, both, cons, some, member, firsts, part_firsts, first_sort, second_sort, read_more, has_prefix, with_some, with_none, read}
 use Rattle.vtl_grammar.proofs.Sorts.{by_test, member-append}
 use Rattle.vtl_grammar.proofs.Spellings.{and-true, Spells-no_tokens}
 use Rattle.vtl_grammar.proofs.RuleLaws.{prefix_opens}
-use Rattle.vtl_grammar.proofs.Complete.{Stops, Begins, Reads, tail_sorts, apart, Stops-left, Stops-right, Begins-append, Begins-apart, both-reads, mapped-reads, left-reads, right-reads, mark-reads, single, ends, slot_ends, part_seconds, seconds, predictive, rule-begins, one_token, two_tokens}
+use Rattle.vtl_grammar.proofs.Complete.{Stops, Begins, Reads, tail_sorts, apart, Stops-left, Stops-right, Begins-append, Begins-apart, both-reads, mapped-reads, left-reads, right-reads, mark-reads, single, ends, join_part_ends, part_seconds, seconds, predictive, rule-begins, one_token, two_tokens}
 
 -- what stops a part
 abbrev pub part_ends : Part → List ℕ
 part_ends (expression m) = tail_sorts m
-part_ends (clause c) = slot_ends c
+part_ends (clause c) = join_part_ends c
 
 abbrev pub part_fits : Part → Bool
 part_fits (expression m) = nat_le m top
@@ -62,7 +62,7 @@ prefix_tokens-append : (p : Prefix) (l : At Text) (q : Place) (b rest : Tokens) 
 prefix_tokens-append label l q b rest = refl
 prefix_tokens-append component l q b rest = refl
 
-module _ (L : Counts) (T : Spelled) (some_token : (q : Part) (e : OfPart q) → T q e [] → ⊥) (T-begins : (q : Part) (e : OfPart q) (us : Tokens) → T q e us → Begins (part_heads q) us)
+module _ (L : Counts) (T : Spelled) (some_token : (q : Part) (e : OfPart q) → T q e [] → ⊥) (T-begins : (q : Part) (e : OfPart q) (us : Tokens) → T q e us → Begins (part_firsts q) us)
     (T-second : (p : Prefix) (q : Part) (e : OfPart q) (t u : Token) (us : Tokens) → T q e (t ∷ u ∷ us) → sort_of t.what ≡ first_sort p → member (sort_of u.what) (part_seconds p q) ≡ true)
     (inner : (q : Part) → Reader (OfPart q)) (k : ℕ) (inner-reads : (q : Part) → part_fits q ≡ true → Reads (inner q) (T q) k (part_ends q)) where
   begins_by : (g : Rule) (v : Of g) (us : Tokens) → Spells L T g v us → Begins (firsts g) us

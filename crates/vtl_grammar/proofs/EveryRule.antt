@@ -1,13 +1,14 @@
 -- Each rule's reading is explained, where the rule fits.
-use Rattle.std.proofs.Common.{◌≡◌, ℕ, ◌+◌, List, [], ◌∷◌, ◌++◌, Bool, true, false, cond, Option, Some, None, inl, inr, refl, sym, ap, subst, ◌∙◌, arith}
-use Rattle.std.proofs.lemmas.Bool.{eqb-true, eq-eqb}
+use Rattle.std.proofs.Common.{◌≡◌, ℕ, ◌+◌, ◌≤◌, List, [], ◌∷◌, ◌++◌, Bool, true, false, cond, Option, Some, None, inl, inr, refl, sym, ap, subst, ◌∙◌, arith}
+use Rattle.std.proofs.lemmas.Bool.{eqb-true, eq-eqb, leb-true}
 use Rattle.std.proofs.lemmas.List.{append-nil}
-use Rattle.std.specs.Prelude.{nat_eq, if◌then◌else◌, ◌&&◌}
+use Rattle.std.specs.Prelude.{nat_eq, nat_le, if◌then◌else◌, ◌&&◌}
 use Rattle.vtl_values.specs.declared.place.Place.{Place}
 use Rattle.vtl_tokens.specs.declared.token.TokenKind.{TokenKind}
 use Rattle.vtl_tokens.specs.declared.token.TokenKind.TheVariants as what
 use Rattle.vtl_grammar.specs.Marks.{Mark, Tokens, at, of_mark, sort_of, mark_code, sign, key}
 use Rattle.vtl_grammar.specs.Rules.{Counts, Limit, lists, Rule, mark, name, integer, number, text, part, ◌▸◌, option, suffix, either, repeated, prefixed, here, Part, OfPart, expression, clause, Of, first_place}
+use Rattle.vtl_grammar.specs.Forms.{top}
 use Rattle.vtl_grammar.specs.Reading.{Kind, Reader, halt, got, mapped, both, choice, maybe, member, firsts, first_sort, read_mark, read_name, read_more, with_some, with_none, read}
 use Rattle.vtl_grammar.proofs.Sorts.{by_test}
 use Rattle.vtl_grammar.proofs.Explained.{Explains, HasSample, SpellsBoth, both-explained, mapped-explained, said-explained, choice-explained}
@@ -23,7 +24,7 @@ takes k name = nat_eq 0 k
 takes k integer = false
 takes k number = false
 takes k text = false
-takes k (part (expression m)) = nat_eq 0 k
+takes k (part (expression m)) = nat_eq 0 k && nat_le m top
 takes k (part (clause c)) = false
 takes k (g ▸ h) = takes k g
 takes k (option g h) = if member k (firsts g) then takes k g else takes k h
@@ -82,7 +83,7 @@ taken_branch false x y e = ((λ q. absurd cc), (λ q. e))
 
 -- ---- rules
 
-module _ (inner : (q : Part) → Reader (OfPart q)) (L : Counts) (limit : ℕ) (inner-law : (q : Part) (ts : Tokens) → Explains (inner q) (SpellsPart q) L limit (L lists) ts (inner q ts)) (inner-passes : (m : ℕ) → PassesSort 0 (inner (expression m))) where
+module _ (inner : (q : Part) → Reader (OfPart q)) (L : Counts) (limit : ℕ) (inner-law : (q : Part) (ts : Tokens) → Explains (inner q) (SpellsPart q) L limit (L lists) ts (inner q ts)) (inner-passes : (m : ℕ) → m ≤ top → PassesSort 0 (inner (expression m))) where
   -- the law of a rule, and that it doesn't stop at a token that it takes
   pub record RuleLaw (g : Rule) : Type 0 where
     pub explained : (ts : Tokens) → Explains (read L inner g) (SpellsRule g) L limit (L lists) ts (read L inner g ts)
@@ -159,7 +160,7 @@ module _ (inner : (q : Part) → Reader (OfPart q)) (L : Counts) (limit : ℕ) (
   rule-law integer e = record { explained = integer-explained L limit (L lists); passes = λ k z. absurd cc }
   rule-law number e = record { explained = number-explained L limit (L lists); passes = λ k z. absurd cc }
   rule-law text e = record { explained = text-explained L limit (L lists); passes = λ k z. absurd cc }
-  rule-law (part (expression m)) e = record { explained = inner-law (expression m); passes = λ k z t ts kind s h. inner-passes m t ts kind (s ∙ sym (eqb-true 0 k z)) h }
+  rule-law (part (expression m)) e = record { explained = inner-law (expression m); passes = λ k z t ts kind s h. let zs = and-true (nat_eq 0 k) (nat_le m top) z in inner-passes m (leb-true m top zs.1) t ts kind (s ∙ sym (eqb-true 0 k zs.0)) h }
   rule-law (part (clause c)) e = record { explained = inner-law (clause c); passes = λ k z. absurd cc }
   rule-law (g ▸ h) e =
       let es = and-true (fits g) (fits h && has_sample h) e in

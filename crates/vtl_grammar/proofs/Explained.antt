@@ -61,7 +61,7 @@ module _ {A : Type 0} (S : Spelling A) (L : Counts) (limit : ℕ) where
   Goes front = (front ≡ []) ⊎ ((more : Tokens) × (value : A) × S L limit value (front ++ more))
 
 module _ {A : Type 0} (r : Reader A) (S : Spelling A) (L : Counts) (limit b : ℕ) (ts : Tokens) where
-  -- the front is spelled so, and is read so whatever comes behind the next token
+  -- the front is spelled so, and is read so whatever comes after the next token
   pub record IsRead (g : Got A) : Type 0 where
     pub front : Tokens
     pub parts : ts ≡ front ++ g.rest
@@ -69,7 +69,7 @@ module _ {A : Type 0} (r : Reader A) (S : Spelling A) (L : Counts) (limit b : �
     pub spelled : S L g.levels g.value front
     pub again : (rest : Tokens) → SameHead g.rest rest → r (front ++ rest) ≡ got g.value g.levels rest
 
-  -- the front goes on, and is refused at the next token whatever comes behind that; a list without a limit of its own
+  -- the front goes on, and is refused at the next token whatever comes after that; a list without a limit of its own
   -- has b items at least where there are too many
   pub record IsHalted (e : Halt) : Type 0 where
     pub front : Tokens
@@ -138,7 +138,7 @@ same_rises a b le = le
 pub suc_rises : (a b : ℕ) → a ≤ b → suc a ≤ suc b
 suc_rises a b le = omega arith
 
--- ---- one behind the other
+-- ---- one after the other
 
 abbrev pub SpellsBoth : {A B : Type 0} → Spelling A → Spelling B → Spelling (A × B)
 SpellsBoth S Q L h v us = (a b : Tokens) × (us ≡ a ++ b) × S L h v.0 a × Q L h v.1 b
@@ -247,8 +247,8 @@ shorter r S L limit b c ts le (Err d) e = record { front = e.front; parts = e.pa
 -- ---- a choice
 
 module _ {A : Type 0} (ks : List ℕ) (r q : Reader A) (S : Spelling A) (L : Counts) (limit b : ℕ) (ts : Tokens) where
-  head_of : (front rest rest' : Tokens) → ts ≡ front ++ rest → SameHead rest rest' → starts ks (front ++ rest') ≡ starts ks ts
-  head_of front rest rest' parts same =
+  prefix_form_of : (front rest rest' : Tokens) → ts ≡ front ++ rest → SameHead rest rest' → starts ks (front ++ rest') ≡ starts ks ts
+  prefix_form_of front rest rest' parts same =
       let one : SameHead (front ++ rest) (front ++ rest') = SameHead-append front rest rest' same in
       let two : starts ks (front ++ rest) ≡ starts ks (front ++ rest') = starts-same ks (front ++ rest) (front ++ rest') one in
       sym two ∙ sym (ap (starts ks) parts)
@@ -259,7 +259,7 @@ module _ {A : Type 0} (ks : List ℕ) (r q : Reader A) (S : Spelling A) (L : Cou
     parts = e.parts;
     low = e.low;
     spelled = e.spelled;
-    again = λ (rest : Tokens) same. let h = head_of e.front a.rest rest e.parts same ∙ is_so in rw h (e.again rest same);
+    again = λ (rest : Tokens) same. let h = prefix_form_of e.front a.rest rest e.parts same ∙ is_so in rw h (e.again rest same);
   }
   left_explained is_so (Err d) e = record {
     front = e.front;
@@ -267,7 +267,7 @@ module _ {A : Type 0} (ks : List ℕ) (r q : Reader A) (S : Spelling A) (L : Cou
     goes_on = e.goes_on;
     beyond = e.beyond;
     long = e.long;
-    again = λ (rest : Tokens) same. let h = head_of e.front d.rest rest e.parts same ∙ is_so in rw h (e.again rest same);
+    again = λ (rest : Tokens) same. let h = prefix_form_of e.front d.rest rest e.parts same ∙ is_so in rw h (e.again rest same);
   }
 
   pub right_explained : starts ks ts ≡ false → (x : Read A) → Explains q S L limit b ts x → Explains (choice ks r q) S L limit b ts x
@@ -276,7 +276,7 @@ module _ {A : Type 0} (ks : List ℕ) (r q : Reader A) (S : Spelling A) (L : Cou
     parts = e.parts;
     low = e.low;
     spelled = e.spelled;
-    again = λ (rest : Tokens) same. let h = head_of e.front a.rest rest e.parts same ∙ is_not in rw h (e.again rest same);
+    again = λ (rest : Tokens) same. let h = prefix_form_of e.front a.rest rest e.parts same ∙ is_not in rw h (e.again rest same);
   }
   right_explained is_not (Err d) e = record {
     front = e.front;
@@ -284,7 +284,7 @@ module _ {A : Type 0} (ks : List ℕ) (r q : Reader A) (S : Spelling A) (L : Cou
     goes_on = e.goes_on;
     beyond = e.beyond;
     long = e.long;
-    again = λ (rest : Tokens) same. let h = head_of e.front d.rest rest e.parts same ∙ is_not in rw h (e.again rest same);
+    again = λ (rest : Tokens) same. let h = prefix_form_of e.front d.rest rest e.parts same ∙ is_not in rw h (e.again rest same);
   }
 
   either_way : (c : Bool) → starts ks ts ≡ c → (starts ks ts ≡ true → Explains r S L limit b ts (r ts)) → (starts ks ts ≡ false → Explains q S L limit b ts (q ts)) → Explains (choice ks r q) S L limit b ts (cond c (r ts) (q ts))

@@ -15,3 +15,6 @@ pub mod ScriptLaws
 pub mod GrammarLaws
 pub mod RenameLaw
 pub mod FaultLaw
+pub mod OneAnswer
+pub mod LeftOutLaw
+pub mod ParsedLaw

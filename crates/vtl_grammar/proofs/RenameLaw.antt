@@ -9,7 +9,7 @@ use Rattle.vtl_tokens.specs.declared.keyword.Keyword.TheVariants as words
 use Rattle.vtl_syntax.specs.declared.script.Script.{Script}
 use Rattle.vtl_grammar.specs.Marks.{Tokens, at}
 use Rattle.vtl_grammar.specs.Scripts.{IsScript, IsScriptAtLarge, language, LEVELS}
-use Rattle.vtl_grammar.specs.Faults.{GoesOn, GoesNoFurther, IsDeepScript, IsLongScript}
+use Rattle.vtl_grammar.specs.Faults.{GoesOn, GoesNoFurther, IsLongScript}
 use Rattle.vtl_grammar.specs.Reading.{Kind, Expected, TooDeep, TooMany, Halt, Read}
 use Rattle.vtl_grammar.specs.Laws.{read_whole, IsReason, StopsAt, Answers, with_rename, passes_last, TellsRename}
 use Rattle.vtl_grammar.proofs.GrammarLaws.{reads_rightly}
@@ -34,16 +34,13 @@ last_or_before (y ∷ a) t us (x ∷ xs) r e =
       | inr w ↦ inr (w.0, ap (λ (vs : Tokens). x ∷ vs) w.1 ∙ ap (λ (z : Token). z ∷ (a ++ t ∷ w.0)) (sym head))
     ]
 
-goes-larger : (P Q : Script → Tokens → Type 0) → ((s : Script) (us : Tokens) → P s us → Q s us) → (us : Tokens) → GoesOn P us → GoesOn Q us
+pub goes-larger : (P Q : Script → Tokens → Type 0) → ((s : Script) (us : Tokens) → P s us → Q s us) → (us : Tokens) → GoesOn P us → GoesOn Q us
 goes-larger P Q h us g = (g.0, g.1, h g.1 (us ++ g.0) g.2)
 
 at_large : (s : Script) (us : Tokens) → IsScript s us → IsScriptAtLarge s us
 at_large s us (n, is) = (language n, LEVELS, is)
 
-deep_at_large : (s : Script) (us : Tokens) → IsDeepScript s us → IsScriptAtLarge s us
-deep_at_large s us (n, d, is) = (language n, d, is)
-
-long_at_large : (s : Script) (us : Tokens) → IsLongScript s us → IsScriptAtLarge s us
+pub long_at_large : (s : Script) (us : Tokens) → IsLongScript s us → IsScriptAtLarge s us
 long_at_large s us (L, is) = (L, LEVELS, is)
 
 module _ (front : Tokens) (p : Place) (goes : GoesOn IsScript front) where
@@ -70,7 +67,7 @@ module _ (front : Tokens) (p : Place) (goes : GoesOn IsScript front) where
   passed e s Expected (t ∷ us) is end pass = absurd cc
   passed e s TooDeep rest is end pass =
       let r : IsReason TooDeep s.front e.rest = subst (λ (k : Kind). IsReason k s.front e.rest) is s.reason in
-      subst (λ (us : Tokens). GoesOn IsScriptAtLarge us) (at_last e s r.0 r.1 r.2) (goes-larger IsDeepScript IsScriptAtLarge deep_at_large (s.front ++ r.0 ∷ []) r.3)
+      subst (λ (us : Tokens). GoesOn IsScriptAtLarge us) (at_last e s r.0.0 r.0.1 r.0.2) r.0.3
   passed e s (TooMany j) rest is end pass =
       let r : IsReason (TooMany j) s.front e.rest = subst (λ (k : Kind). IsReason k s.front e.rest) is s.reason in
       subst (λ (us : Tokens). GoesOn IsScriptAtLarge us) (at_last e s r.0 r.1 r.2) (goes-larger IsLongScript IsScriptAtLarge long_at_large (s.front ++ r.0 ∷ []) r.3)

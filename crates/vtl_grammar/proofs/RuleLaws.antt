@@ -126,7 +126,7 @@ rule-opens (here g) o L h t e = absurd cc
 
 -- ---- lists
 
--- what comes behind c items
+-- what comes after c items
 abbrev pub SpellsRest : {A : Type 0} → Limit → Spelling A → ℕ → Spelling (List A)
 SpellsRest l S c L h xs us = (n : ℕ) × (n ≤ L l - c) × SpellsMore (S L h) n xs us
 
@@ -258,15 +258,15 @@ module _ {A : Type 0} (r : Reader A) (S : Spelling A) (L : Counts) (limit b : �
 module _ {A B : Type 0} (t u : Token) (f : A → B) (r : Reader A) (q : Reader B) (S : Spelling A) (Q : Spelling B) (L : Counts) (limit b : ℕ) (sample : HasSample S) (ts : Tokens)
     (seen : (L' : Counts) (h : ℕ) (x : A) (us : Tokens) → S L' h x us → Q L' h (f x) (t ∷ u ∷ us))
     (opens : (us : Tokens) → q (t ∷ u ∷ us) ≡ mapped f (r us)) where
-  behind_two : (x : Read A) → Explains r S L limit b ts x → Explains q Q L limit b (t ∷ u ∷ ts) (mapped f x)
-  behind_two (Ok a) e = record {
+  after_two : (x : Read A) → Explains r S L limit b ts x → Explains q Q L limit b (t ∷ u ∷ ts) (mapped f x)
+  after_two (Ok a) e = record {
     front = t ∷ u ∷ e.front;
     parts = ap (λ (us : Tokens). t ∷ u ∷ us) e.parts;
     low = e.low;
     spelled = seen L a.levels a.value e.front e.spelled;
     again = λ (rest : Tokens) same. let one = e.again rest same in opens (e.front ++ rest) ∙ rw one refl;
   }
-  behind_two (Err d) e =
+  after_two (Err d) e =
       let step : (L' : Counts) (l : ℕ) → IsMore L L' → limit ≤ l → (x : A) (us : Tokens) → S L' l x (e.front ++ us) → (y : B) × (vs extra : Tokens) × (vs ≡ us ++ extra) × Q L' l y ((t ∷ u ∷ e.front) ++ vs) =
       λ L' l more le x us spelled. (f x, us, [], sym (append-nil us), seen L' l x (e.front ++ us) spelled) in
       record {
@@ -358,16 +358,16 @@ module _ (g : Rule) (r : Reader (Of g)) (p : Prefix) (L : Counts) (limit b : ℕ
         again = λ (rest : Tokens) same. plain_again ts d.kind e.front d.rest none e.parts e.again rest same;
       }
 
-  behind_prefix : (o : Prefix) → o ≡ p → (l : At Text) (q : Place) (us : Tokens) → Explains (read_prefixed o r) (SpellsRule (prefixed o g)) L limit b (prefix_tokens o l q us) (read_prefixed o r (prefix_tokens o l q us))
-  behind_prefix label is l q us = subst (λ (x : Read (Option (At Text) × Of g)). Explains (read_prefixed label r) (SpellsRule (prefixed label g)) L limit b (prefix_tokens label l q us) x) (sym (prefix_opens r label l q us))
-      (behind_two (at (what.Name l.value) l.place) (at (what.Sign signs.Colon) q) (labelled_as l) r (read_prefixed label r) (SpellsRule g) (SpellsRule (prefixed label g)) L limit b sample us (λ L' h x vs s. (q, vs, refl, s)) (prefix_opens r label l q) (r us) (law us))
-  behind_prefix component is l q us = subst (λ (x : Read (Option (At Text) × Of g)). Explains (read_prefixed component r) (SpellsRule (prefixed component g)) L limit b (prefix_tokens component l q us) x) (sym (prefix_opens r component l q us))
-      (behind_two (at (what.Reserved words.Rule) q) (at (what.Name l.value) l.place) (labelled_as l) r (read_prefixed component r) (SpellsRule g) (SpellsRule (prefixed component g)) L limit b sample us (λ L' h x vs s. (q, vs, refl, s)) (prefix_opens r component l q) (r us) (law us))
+  after_prefix : (o : Prefix) → o ≡ p → (l : At Text) (q : Place) (us : Tokens) → Explains (read_prefixed o r) (SpellsRule (prefixed o g)) L limit b (prefix_tokens o l q us) (read_prefixed o r (prefix_tokens o l q us))
+  after_prefix label is l q us = subst (λ (x : Read (Option (At Text) × Of g)). Explains (read_prefixed label r) (SpellsRule (prefixed label g)) L limit b (prefix_tokens label l q us) x) (sym (prefix_opens r label l q us))
+      (after_two (at (what.Name l.value) l.place) (at (what.Sign signs.Colon) q) (labelled_as l) r (read_prefixed label r) (SpellsRule g) (SpellsRule (prefixed label g)) L limit b sample us (λ L' h x vs s. (q, vs, refl, s)) (prefix_opens r label l q) (r us) (law us))
+  after_prefix component is l q us = subst (λ (x : Read (Option (At Text) × Of g)). Explains (read_prefixed component r) (SpellsRule (prefixed component g)) L limit b (prefix_tokens component l q us) x) (sym (prefix_opens r component l q us))
+      (after_two (at (what.Reserved words.Rule) q) (at (what.Name l.value) l.place) (labelled_as l) r (read_prefixed component r) (SpellsRule g) (SpellsRule (prefixed component g)) L limit b sample us (λ L' h x vs s. (q, vs, refl, s)) (prefix_opens r component l q) (r us) (law us))
 
   by_prefix : (ts : Tokens) (c : Bool) → has_prefix p ts ≡ c → Explains with_prefix (SpellsRule (prefixed p g)) L limit b ts (with_prefix ts)
   by_prefix ts true e =
       let o = of_prefix p ts e in
-      subst (λ (us : Tokens). Explains with_prefix (SpellsRule (prefixed p g)) L limit b us (with_prefix us)) (sym o.3) (behind_prefix p refl o.0 o.1 o.2)
+      subst (λ (us : Tokens). Explains with_prefix (SpellsRule (prefixed p g)) L limit b us (with_prefix us)) (sym o.3) (after_prefix p refl o.0 o.1 o.2)
   by_prefix ts false e = let is : with_prefix ts ≡ mapped with_none (r ts) = rw e refl in subst (λ (x : Read (Option (At Text) × Of g)). Explains with_prefix (SpellsRule (prefixed p g)) L limit b ts x) (sym is) (plain ts e (r ts) (law ts))
 
   pub prefixed-explained : (ts : Tokens) → Explains with_prefix (SpellsRule (prefixed p g)) L limit b ts (with_prefix ts)

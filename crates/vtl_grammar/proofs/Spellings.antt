@@ -1,6 +1,7 @@
 -- Laws of what is spelled: within higher limits too, by some tokens, and never by none.
 use Rattle.std.proofs.Common.{◌≡◌, ℕ, zero, suc, ◌≤◌, length, List, [], ◌∷◌, ◌++◌, Bool, true, false, Some, None, inl, inr, refl, subst, arith}
-use Rattle.std.specs.Prelude.{◌&&◌, ℤ, pos}
+use Rattle.std.proofs.lemmas.Bool.{leb-true}
+use Rattle.std.specs.Prelude.{nat_le, ◌&&◌, ℤ, pos}
 use Rattle.vtl_values.specs.declared.place.Place.{Place}
 use Rattle.vtl_values.specs.declared.value.Value.TheVariants as value
 use Rattle.vtl_tokens.specs.declared.token.Token.{Token}
@@ -9,7 +10,8 @@ use Rattle.vtl_syntax.specs.declared.expr.Expr.{Expr}
 use Rattle.vtl_syntax.specs.declared.expr.Expr.TheVariants as tree
 use Rattle.vtl_grammar.specs.Marks.{Tokens, at, kind_of}
 use Rattle.vtl_grammar.specs.Rules.{Counts, Rule, mark, name, integer, number, text, part, ◌▸◌, option, suffix, either, repeated, prefixed, here, Prefix, label, component, Part, OfPart, expression, clause, Of, At, first_place, prefix_tokens, Spells, SpellsMore}
-use Rattle.vtl_grammar.specs.Clauses.{slot_rule}
+use Rattle.vtl_grammar.specs.Clauses.{join_part_rule}
+use Rattle.vtl_grammar.specs.Forms.{literal_precedence}
 use Rattle.vtl_grammar.specs.Expressions.{Spelled, IsLeaf, IsForm, IsTailed, IsPart}
 use Rattle.vtl_grammar.proofs.Explained.{Spelling, IsMore, IsGrowing, HasSample}
 
@@ -48,12 +50,12 @@ module _ (L L' : Counts) (more : IsMore L L') (T T' : Spelled) (wider : (q : Par
     place = f.place;
     form = f.form;
     of_mark = f.of_mark;
-    level = f.level;
+    precedence = f.precedence;
     value = f.value;
     is = f.is;
-    behind = f.behind;
+    after = f.after;
     tokens = f.tokens;
-    spelled = Spells-wider f.form.rule f.value f.behind f.spelled;
+    spelled = Spells-wider f.form.rule f.value f.after f.spelled;
   }
 
   pub tailed-wider : (m : ℕ) (e : Expr) (us : Tokens) → IsTailed L T m e us → IsTailed L' T' m e us
@@ -64,16 +66,16 @@ module _ (L L' : Counts) (more : IsMore L L') (T T' : Spelled) (wider : (q : Par
     place = f.place;
     tail = f.tail;
     of_mark = f.of_mark;
-    level = f.level;
-    left_spelled = wider (expression f.tail.level) f.left f.front f.left_spelled;
+    precedence = f.precedence;
+    left_spelled = wider (expression f.tail.operand) f.left f.front f.left_spelled;
     value = f.value;
     is = f.is;
-    behind = f.behind;
+    after = f.after;
     tokens = f.tokens;
-    spelled = Spells-wider f.tail.rule f.value f.behind f.spelled;
+    spelled = Spells-wider f.tail.rule f.value f.after f.spelled;
   }
 
-pub leaf_is : (L : Counts) (h m : ℕ) (e : Expr) (us : Tokens) → IsLeaf e us → IsPart L h (expression m) e us
+pub leaf_is : (L : Counts) (h m : ℕ) (e : Expr) (us : Tokens) → IsLeaf m e us → IsPart L h (expression m) e us
 leaf_is L zero m e us s = s
 leaf_is L (suc h) m e us s = inl s
 
@@ -84,21 +86,24 @@ IsPart-grows L L' more (suc h) zero q e us le s = absurd (omega arith)
 IsPart-grows L L' more (suc h) (suc k) (expression m) e us le (inl s) = inl s
 IsPart-grows L L' more (suc h) (suc k) (expression m) e us le (inr (inl s)) = inr (inl (form-wider L L' more (IsPart L h) (IsPart L' k) (λ q f vs r. IsPart-grows L L' more h k q f vs (omega arith) r) m e us s))
 IsPart-grows L L' more (suc h) (suc k) (expression m) e us le (inr (inr s)) = inr (inr (tailed-wider L L' more (IsPart L h) (IsPart L' k) (λ q f vs r. IsPart-grows L L' more h k q f vs (omega arith) r) m e us s))
-IsPart-grows L L' more (suc h) (suc k) (clause c) e us le (v, is, s) = (v, is, Spells-wider L L' more (IsPart L h) (IsPart L' k) (λ q f vs r. IsPart-grows L L' more h k q f vs (omega arith) r) (slot_rule c) v us s)
+IsPart-grows L L' more (suc h) (suc k) (clause c) e us le (v, is, s) = (v, is, Spells-wider L L' more (IsPart L h) (IsPart L' k) (λ q f vs r. IsPart-grows L L' more h k q f vs (omega arith) r) (join_part_rule c) v us s)
 
--- an expression of a level is one of each lower level
+leaf-lower : (m q : ℕ) (e : Expr) (us : Tokens) → q ≤ m → IsLeaf m e us → IsLeaf q e us
+leaf-lower m q e us le (t, is, high, parts) = (t, is, omega arith, parts)
+
+-- an expression of a precedence is one of each lower precedence
 pub IsPart-lower : (L : Counts) (h m q : ℕ) (e : Expr) (us : Tokens) → q ≤ m → IsPart L h (expression m) e us → IsPart L h (expression q) e us
-IsPart-lower L zero m q e us le s = s
-IsPart-lower L (suc h) m q e us le (inl s) = inl s
+IsPart-lower L zero m q e us le s = leaf-lower m q e us le s
+IsPart-lower L (suc h) m q e us le (inl s) = inl (leaf-lower m q e us le s)
 IsPart-lower L (suc h) m q e us le (inr (inl f)) = inr (inl (record {
   begins = f.begins;
   place = f.place;
   form = f.form;
   of_mark = f.of_mark;
-  level = (let l = f.level in omega arith);
+  precedence = (let l = f.precedence in omega arith);
   value = f.value;
   is = f.is;
-  behind = f.behind;
+  after = f.after;
   tokens = f.tokens;
   spelled = f.spelled;
 }))
@@ -109,11 +114,11 @@ IsPart-lower L (suc h) m q e us le (inr (inr f)) = inr (inr (record {
   place = f.place;
   tail = f.tail;
   of_mark = f.of_mark;
-  level = (let l = f.level in omega arith);
+  precedence = (let l = f.precedence in omega arith);
   left_spelled = f.left_spelled;
   value = f.value;
   is = f.is;
-  behind = f.behind;
+  after = f.after;
   tokens = f.tokens;
   spelled = f.spelled;
 }))
@@ -137,14 +142,14 @@ pub and-true : (a b : Bool) → a && b ≡ true → (a ≡ true) × (b ≡ true)
 and-true true b e = (refl, e)
 and-true false b e = absurd cc
 
--- no clause in a join is owed
+-- no clause in a join is owed, and a literal will do
 abbrev pub has_sample : Rule → Bool
 has_sample (mark m) = true
 has_sample name = true
 has_sample integer = true
 has_sample number = true
 has_sample text = true
-has_sample (part (expression m)) = true
+has_sample (part (expression m)) = nat_le m literal_precedence
 has_sample (part (clause k)) = false
 has_sample (g ▸ h) = has_sample g && has_sample h
 has_sample (option g h) = has_sample h
@@ -172,7 +177,7 @@ rule-sample text e = record { value = nothing_at; tokens = at (what.Text []) no_
 rule-sample (part (expression m)) e = record {
   value = tree.Literal (value.Integer (pos 0)) no_place;
   tokens = at (what.Integer (pos 0)) no_place ∷ [];
-  spelled = λ L h. leaf_is L h m (tree.Literal (value.Integer (pos 0)) no_place) (at (what.Integer (pos 0)) no_place ∷ []) (at (what.Integer (pos 0)) no_place, refl, refl);
+  spelled = λ L h. leaf_is L h m (tree.Literal (value.Integer (pos 0)) no_place) (at (what.Integer (pos 0)) no_place ∷ []) (at (what.Integer (pos 0)) no_place, refl, leb-true _ _ e, refl);
 }
 rule-sample (part (clause k)) e = absurd cc
 rule-sample (g ▸ h) e =
@@ -189,8 +194,8 @@ rule-sample (here g) e = let q = rule-sample g e in record { value = (first_plac
 
 -- ---- nothing is spelled by no tokens
 
-leaf_no_tokens : (e : Expr) → IsLeaf e [] → ⊥
-leaf_no_tokens e (t, is, parts) = cc
+leaf_no_tokens : (m : ℕ) (e : Expr) → IsLeaf m e [] → ⊥
+leaf_no_tokens m e (t, is, high, parts) = cc
 
 front_no_tokens : (a b : Tokens) → [] ≡ a ++ b → a ≡ []
 front_no_tokens [] b parts = refl
@@ -225,12 +230,12 @@ module _ (L : Counts) (T : Spelled) (some : (q : Part) (e : OfPart q) → T q e 
   Spells-no_tokens (here g) v (first, s) = Spells-no_tokens g v.1 s
 
 pub IsPart-no_tokens : (L : Counts) (h : ℕ) (q : Part) (e : OfPart q) → IsPart L h q e [] → ⊥
-IsPart-no_tokens L zero (expression m) e s = leaf_no_tokens e s
+IsPart-no_tokens L zero (expression m) e s = leaf_no_tokens m e s
 IsPart-no_tokens L zero (clause k) e s = s
-IsPart-no_tokens L (suc h) (expression m) e (inl s) = leaf_no_tokens e s
+IsPart-no_tokens L (suc h) (expression m) e (inl s) = leaf_no_tokens m e s
 IsPart-no_tokens L (suc h) (expression m) e (inr (inl f)) = let p = f.tokens in cc
-IsPart-no_tokens L (suc h) (expression m) e (inr (inr f)) = no_middle f.front (at (kind_of f.begins) f.place) f.behind f.tokens
-IsPart-no_tokens L (suc h) (clause k) e (v, is, s) = Spells-no_tokens L (IsPart L h) (λ q x r. IsPart-no_tokens L h q x r) (slot_rule k) v s
+IsPart-no_tokens L (suc h) (expression m) e (inr (inr f)) = no_middle f.front (at (kind_of f.begins) f.place) f.after f.tokens
+IsPart-no_tokens L (suc h) (clause k) e (v, is, s) = Spells-no_tokens L (IsPart L h) (λ q x r. IsPart-no_tokens L h q x r) (join_part_rule k) v s
 
 pub rule-no_tokens : (g : Rule) (L : Counts) (h : ℕ) (v : Of g) → SpellsRule g L h v [] → ⊥
 rule-no_tokens g L h v s = Spells-no_tokens L (IsPart L h) (IsPart-no_tokens L h) g v s

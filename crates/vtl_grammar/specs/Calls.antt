@@ -1,4 +1,4 @@
--- Calls: what stands behind a word, and the tree that is read.
+-- Calls: what stands after a word, and the tree that is read.
 use Rattle.std.specs.Prelude.{ℕ, Option, Some, None, ◌⊎◌, option_map, map}
 use Rattle.std.proofs.Common.{inl, inr}
 use Rattle.vtl_values.specs.declared.place.Place.{Place}
@@ -21,6 +21,9 @@ use Rattle.vtl_syntax.specs.declared.words.AggregateFunction.TheVariants as aggr
 use Rattle.vtl_syntax.specs.declared.words.WindowFunction.{WindowFunction}
 use Rattle.vtl_syntax.specs.declared.words.WindowFunction.TheVariants as window_word
 use Rattle.vtl_syntax.specs.declared.words.OffsetFunction.{OffsetFunction}
+use Rattle.vtl_syntax.specs.declared.words.TimeFunction.{TimeFunction}
+use Rattle.vtl_syntax.specs.declared.words.FillSpan.{FillSpan}
+use Rattle.vtl_syntax.specs.declared.words.FillSpan.TheVariants as fill_span
 use Rattle.vtl_syntax.specs.declared.words.Direction.{Direction}
 use Rattle.vtl_syntax.specs.declared.words.Direction.TheVariants as direction
 use Rattle.vtl_syntax.specs.declared.words.WindowStart.{WindowStart}
@@ -44,9 +47,10 @@ use Rattle.vtl_syntax.specs.declared.words.CheckInput.TheVariants as check_input
 use Rattle.vtl_grammar.specs.Rules.{Rule, name, integer, text, part, ◌▸◌, option, suffix, either, repeated, prefixed, here, component, clause, filtering, calculating, keeping, renaming, operands, Of, word, expr, comma, open_paren, close_paren, commas, listed}
 use Rattle.vtl_grammar.specs.Clauses.{literal, literal_of, signed_integer, signed_of, names, names_of, groups, groups_of}
 
--- a form that begins with a word of its own: its level, what comes behind the word, and the tree with the word's place
+-- a form that begins with a word of its own: its precedence, what comes after the word, and the tree with the word's
+-- place
 pub record Form : Type 0 where
-  pub level : ℕ
+  pub precedence : ℕ
   pub rule : Rule
   pub tree : Of rule → Place → Expr
 
@@ -58,11 +62,11 @@ second v = v.1
 
 -- F(expr)
 abbrev pub unary : UnaryFunction → Form
-unary f = record { level = 7; rule = open_paren ▸ expr 0 ▸ close_paren; tree = λ v p. tree.Unary f v.1.0 p }
+unary f = record { precedence = 7; rule = open_paren ▸ expr 0 ▸ close_paren; tree = λ v p. tree.Unary f v.1.0 p }
 
 -- F(expr [, ["-"] integer])
 abbrev pub round : RoundFunction → Form
-round f = record { level = 7; rule = open_paren ▸ expr 0 ▸ option (comma ▸ signed_integer) close_paren; tree = λ v p. tree.Round f v.1.0 (option_map (λ w. signed_of w.1) v.1.1.0) p }
+round f = record { precedence = 7; rule = open_paren ▸ expr 0 ▸ option (comma ▸ signed_integer) close_paren; tree = λ v p. tree.Round f v.1.0 (option_map (λ w. signed_of w.1) v.1.1.0) p }
 
 -- expr, expr)
 abbrev pub two_operands : Rule
@@ -70,15 +74,15 @@ two_operands = open_paren ▸ expr 0 ▸ comma ▸ expr 0 ▸ close_paren
 
 -- F(expr, expr)
 abbrev pub binary : BinaryFunction → Form
-binary f = record { level = 7; rule = two_operands; tree = λ v p. tree.Binary f v.1.0 v.1.1.1.0 p }
+binary f = record { precedence = 7; rule = two_operands; tree = λ v p. tree.Binary f v.1.0 v.1.1.1.0 p }
 
 -- between(expr, lit, lit)
 abbrev pub between : Form
-between = record { level = 7; rule = open_paren ▸ expr 0 ▸ comma ▸ literal ▸ comma ▸ literal ▸ close_paren; tree = λ v p. tree.Between v.1.0 (literal_of v.1.1.1.0) (literal_of v.1.1.1.1.1.0) p }
+between = record { precedence = 7; rule = open_paren ▸ expr 0 ▸ comma ▸ literal ▸ comma ▸ literal ▸ close_paren; tree = λ v p. tree.Between v.1.0 (literal_of v.1.1.1.0) (literal_of v.1.1.1.1.1.0) p }
 
 -- match_characters(expr, string)
 abbrev pub match_characters : Form
-match_characters = record { level = 7; rule = open_paren ▸ expr 0 ▸ comma ▸ text ▸ close_paren; tree = λ v p. tree.MatchCharacters v.1.0 v.1.1.1.0.value p }
+match_characters = record { precedence = 7; rule = open_paren ▸ expr 0 ▸ comma ▸ text ▸ close_paren; tree = λ v p. tree.MatchCharacters v.1.0 v.1.1.1.0.value p }
 
 -- [, expr [, expr]])
 abbrev pub substr_rest : Rule
@@ -90,11 +94,11 @@ range_of (inr w) = Some (record { start = w.1.0; length = option_map second w.1.
 
 -- substr(expr [, expr [, expr]])
 abbrev pub substr : Form
-substr = record { level = 7; rule = open_paren ▸ expr 0 ▸ substr_rest; tree = λ v p. tree.Substr v.1.0 (range_of v.1.1) p }
+substr = record { precedence = 7; rule = open_paren ▸ expr 0 ▸ substr_rest; tree = λ v p. tree.Substr v.1.0 (range_of v.1.1) p }
 
 -- replace(expr, expr [, expr])
 abbrev pub replace : Form
-replace = record { level = 7; rule = open_paren ▸ expr 0 ▸ comma ▸ expr 0 ▸ option (comma ▸ expr 0) close_paren; tree = λ v p. tree.Replace v.1.0 v.1.1.1.0 (option_map second v.1.1.1.1.0) p }
+replace = record { precedence = 7; rule = open_paren ▸ expr 0 ▸ comma ▸ expr 0 ▸ option (comma ▸ expr 0) close_paren; tree = λ v p. tree.Replace v.1.0 v.1.1.1.0 (option_map second v.1.1.1.1.0) p }
 
 -- ---- sets and joins
 
@@ -108,15 +112,15 @@ exists_rows_of (inr (inr p)) = exists_rows.False
 
 -- exists_in(expr, expr [, all or true or false])
 abbrev pub exists_in : Form
-exists_in = record { level = 7; rule = open_paren ▸ expr 0 ▸ comma ▸ expr 0 ▸ option (comma ▸ exists_rows_rule) close_paren; tree = λ v p. tree.ExistsIn v.1.0 v.1.1.1.0 (option_map (λ w. exists_rows_of w.1) v.1.1.1.1.0) p }
+exists_in = record { precedence = 7; rule = open_paren ▸ expr 0 ▸ comma ▸ expr 0 ▸ option (comma ▸ exists_rows_rule) close_paren; tree = λ v p. tree.ExistsIn v.1.0 v.1.1.1.0 (option_map (λ w. exists_rows_of w.1) v.1.1.1.1.0) p }
 
 -- F(expr, expr {, expr})
 abbrev pub sets : SetFunction → Form
-sets f = record { level = 7; rule = open_paren ▸ expr 0 ▸ comma ▸ repeated operands (expr 0) (comma ▸ expr 0) ▸ close_paren; tree = λ v p. tree.Sets f v.1.0 v.1.1.1.0.0 (map second v.1.1.1.0.1) p }
+sets f = record { precedence = 7; rule = open_paren ▸ expr 0 ▸ comma ▸ repeated operands (expr 0) (comma ▸ expr 0) ▸ close_paren; tree = λ v p. tree.Sets f v.1.0 v.1.1.1.0.0 (map second v.1.1.1.0.1) p }
 
 -- F(expr, expr)
 abbrev pub difference : DifferenceFunction → Form
-difference f = record { level = 7; rule = two_operands; tree = λ v p. tree.Difference f v.1.0 v.1.1.1.0 p }
+difference f = record { precedence = 7; rule = two_operands; tree = λ v p. tree.Difference f v.1.0 v.1.1.1.0 p }
 
 -- expr [as name]
 abbrev pub join_operand : Rule
@@ -132,7 +136,7 @@ join_clauses = option (part (clause filtering)) (option (part (clause calculatin
 -- F(expr [as name], expr [as name] {, expr [as name]} clauses)
 abbrev pub join : JoinFunction → Form
 join f = record {
-  level = 7;
+  precedence = 7;
   rule = open_paren ▸ join_operand ▸ comma ▸ repeated operands join_operand (comma ▸ join_operand) ▸ join_clauses;
   tree = λ v p. tree.Join f (join_operand_of v.1.0) (join_operand_of v.1.1.1.0.0) (map (λ w. join_operand_of w.1) v.1.1.1.0.1) v.1.1.1.1.0 v.1.1.1.1.1.0 v.1.1.1.1.1.1.0 v.1.1.1.1.1.1.1.0 p;
 }
@@ -197,7 +201,7 @@ aggregate_of f g e (Some (inr w)) p = tree.Aggregate f e (Some (groups_of w)) p
 
 -- F(expr [grouping ["having" expr]]), F(expr over)
 abbrev pub aggregate : AggregateFunction → WindowFunction → Form
-aggregate f g = record { level = 7; rule = open_paren ▸ expr 0 ▸ over_or_groups; tree = λ v p. aggregate_of f g v.1.0 v.1.1.0 p }
+aggregate f g = record { precedence = 7; rule = open_paren ▸ expr 0 ▸ over_or_groups; tree = λ v p. aggregate_of f g v.1.0 v.1.1.0 p }
 
 abbrev pub count_rest : Rule
 count_rest = either close_paren (expr 0 ▸ over_or_groups)
@@ -208,19 +212,40 @@ count_of (inr v) p = aggregate_of aggregate_word.Count window_word.Count v.0 v.1
 
 -- count(), and count as the other aggregates
 abbrev pub count : Form
-count = record { level = 7; rule = open_paren ▸ count_rest; tree = λ v p. count_of v.1 p }
+count = record { precedence = 7; rule = open_paren ▸ count_rest; tree = λ v p. count_of v.1 p }
 
 -- F(expr over)
 abbrev pub window : WindowFunction → Form
-window f = record { level = 7; rule = open_paren ▸ expr 0 ▸ over ▸ close_paren; tree = λ v p. tree.Window f v.1.0 (over_of v.1.1.0) p }
+window f = record { precedence = 7; rule = open_paren ▸ expr 0 ▸ over ▸ close_paren; tree = λ v p. tree.Window f v.1.0 (over_of v.1.1.0) p }
 
 -- F(expr, integer over)
 abbrev pub offset : OffsetFunction → Form
-offset f = record { level = 7; rule = open_paren ▸ expr 0 ▸ comma ▸ integer ▸ over ▸ close_paren; tree = λ v p. tree.Offset f v.1.0 v.1.1.1.0.value (over_of v.1.1.1.1.0) p }
+offset f = record { precedence = 7; rule = open_paren ▸ expr 0 ▸ comma ▸ integer ▸ over ▸ close_paren; tree = λ v p. tree.Offset f v.1.0 v.1.1.1.0.value (over_of v.1.1.1.1.0) p }
 
 -- rank(over)
 abbrev pub rank : Form
-rank = record { level = 7; rule = open_paren ▸ over ▸ close_paren; tree = λ v p. tree.Rank (over_of v.1.0) p }
+rank = record { precedence = 7; rule = open_paren ▸ over ▸ close_paren; tree = λ v p. tree.Rank (over_of v.1.0) p }
+
+-- ---- time periods
+
+-- F(expr)
+abbrev pub time : TimeFunction → Form
+time f = record { precedence = 7; rule = open_paren ▸ expr 0 ▸ close_paren; tree = λ v p. tree.Time f v.1.0 p }
+
+-- timeshift(expr, ["-"] integer)
+abbrev pub timeshift : Form
+timeshift = record { precedence = 7; rule = open_paren ▸ expr 0 ▸ comma ▸ signed_integer ▸ close_paren; tree = λ v p. tree.Timeshift v.1.0 (signed_of v.1.1.1.0) p }
+
+abbrev pub fill_span_rule : Rule
+fill_span_rule = either (word words.All) (word words.Single)
+
+abbrev pub fill_span_of : Of fill_span_rule → FillSpan
+fill_span_of (inl p) = fill_span.All
+fill_span_of (inr p) = fill_span.Single
+
+-- fill_time_series(expr [, all or single])
+abbrev pub fill_time_series : Form
+fill_time_series = record { precedence = 7; rule = open_paren ▸ expr 0 ▸ option (comma ▸ fill_span_rule) close_paren; tree = λ v p. tree.FillTimeSeries v.1.0 (option_map (λ w. fill_span_of w.1) v.1.1.0) p }
 
 -- ---- rulesets and checks
 
@@ -236,7 +261,7 @@ rows_output_of (inr (inr p)) = rows_output.AllMeasures
 -- check_datapoint(expr, name [output])
 abbrev pub check_datapoint : Form
 check_datapoint = record {
-  level = 7;
+  precedence = 7;
   rule = open_paren ▸ expr 0 ▸ comma ▸ name ▸ option rows_output_rule close_paren;
   tree = λ v p. tree.CheckDatapoint v.1.0 v.1.1.1.0.value v.1.1.1.0.place (option_map rows_output_of v.1.1.1.1.0) p;
 }
@@ -277,7 +302,7 @@ check_input_of (inr p) = check_input.DatasetPriority
 -- hierarchy(expr, name ["rule" name] [mode] [input] [output]); `rule` before a name gives the component
 abbrev pub hierarchy : Form
 hierarchy = record {
-  level = 7;
+  precedence = 7;
   rule = open_paren ▸ expr 0 ▸ comma ▸ name ▸ prefixed component (option mode_rule (option hierarchy_input_rule (option hierarchy_output_rule close_paren)));
   tree = λ v p. tree.Hierarchy v.1.0 v.1.1.1.0.value v.1.1.1.0.place (option_map (λ w. w.value) v.1.1.1.1.0) (option_map mode_of v.1.1.1.1.1.0) (option_map hierarchy_input_of v.1.1.1.1.1.1.0) (option_map hierarchy_output_of v.1.1.1.1.1.1.1.0) p;
 }
@@ -285,7 +310,7 @@ hierarchy = record {
 -- check_hierarchy(expr, name ["rule" name] [mode] [input] [output])
 abbrev pub check_hierarchy : Form
 check_hierarchy = record {
-  level = 7;
+  precedence = 7;
   rule = open_paren ▸ expr 0 ▸ comma ▸ name ▸ option (word words.Rule ▸ name) (option mode_rule (option check_input_rule (option rows_output_rule close_paren)));
   tree = λ v p. tree.CheckHierarchy v.1.0 v.1.1.1.0.value v.1.1.1.0.place (option_map (λ w. w.1.value) v.1.1.1.1.0) (option_map mode_of v.1.1.1.1.1.0) (option_map check_input_of v.1.1.1.1.1.1.0) (option_map rows_output_of v.1.1.1.1.1.1.1.0) p;
 }
@@ -300,7 +325,7 @@ check_output_of (inr p) = check_output.Invalid
 -- check(expr ["errorcode" string] ["errorlevel" ["-"] integer] ["imbalance" expr] [all or invalid])
 abbrev pub check : Form
 check = record {
-  level = 7;
+  precedence = 7;
   rule = open_paren ▸ expr 0 ▸ option (word words.Errorcode ▸ text) (option (word words.Errorlevel ▸ signed_integer) (option (word words.Imbalance ▸ expr 0) (option check_output_rule close_paren)));
   tree = λ v p. tree.Check v.1.0 (option_map (λ w. w.1.value) v.1.1.0) (option_map (λ w. signed_of w.1) v.1.1.1.0) (option_map second v.1.1.1.1.0) (option_map check_output_of v.1.1.1.1.1.0) p;
 }

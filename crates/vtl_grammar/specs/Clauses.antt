@@ -18,7 +18,7 @@ use Rattle.vtl_syntax.specs.declared.words.ItemRole.{ItemRole}
 use Rattle.vtl_syntax.specs.declared.words.ItemRole.TheVariants as role
 use Rattle.vtl_syntax.specs.declared.words.GroupWord.{GroupWord}
 use Rattle.vtl_syntax.specs.declared.words.GroupWord.TheVariants as group_word
-use Rattle.vtl_grammar.specs.Rules.{Rule, name, integer, number, text, ◌▸◌, option, suffix, either, here, Of, Text, Slot, filtering, calculating, keeping, renaming, word, sig, expr, comma, commas, listed}
+use Rattle.vtl_grammar.specs.Rules.{Rule, name, integer, number, text, ◌▸◌, option, suffix, either, here, Of, Text, JoinPart, filtering, calculating, keeping, renaming, word, sig, expr, comma, commas, listed}
 
 -- ["-"] integer | ["-"] number | string | "true" | "false" | "null"
 abbrev pub literal : Rule
@@ -127,7 +127,7 @@ unpivot_rule = word words.Unpivot ▸ name ▸ comma ▸ name
 abbrev pub aggr_rule : Rule
 aggr_rule = word words.Aggr ▸ suffix (commas item) groups
 
--- a clause behind a data set
+-- a clause after a data set
 abbrev pub clause_rule : Rule
 clause_rule = either filter_rule (either calc_rule (either keep_rule (either drop_rule (either rename_rule (either sub_rule (either unpivot_rule aggr_rule))))))
 
@@ -166,18 +166,18 @@ clause_of (inr (inr (inr (inr (inr (inr (inl v))))))) = unpivot_of v
 clause_of (inr (inr (inr (inr (inr (inr (inr v))))))) = aggr_of v
 
 -- the clauses in a join: "filter" .., "calc" .., "keep" .. or "drop" .., "rename" ..
-abbrev pub slot_rule : Slot → Rule
-slot_rule filtering = filter_rule
-slot_rule calculating = calc_rule
-slot_rule keeping = either keep_rule drop_rule
-slot_rule renaming = rename_rule
+abbrev pub join_part_rule : JoinPart → Rule
+join_part_rule filtering = filter_rule
+join_part_rule calculating = calc_rule
+join_part_rule keeping = either keep_rule drop_rule
+join_part_rule renaming = rename_rule
 
 abbrev pub kept_of : Of (either keep_rule drop_rule) → Clause
 kept_of (inl v) = keep_of v
 kept_of (inr v) = drop_of v
 
-abbrev pub slot_tree : (k : Slot) → Of (slot_rule k) → Clause
-slot_tree filtering v = filter_of v
-slot_tree calculating v = calc_of v
-slot_tree keeping v = kept_of v
-slot_tree renaming v = rename_of v
+abbrev pub join_part_tree : (k : JoinPart) → Of (join_part_rule k) → Clause
+join_part_tree filtering v = filter_of v
+join_part_tree calculating v = calc_of v
+join_part_tree keeping v = kept_of v
+join_part_tree renaming v = rename_of v

@@ -1,5 +1,5 @@
--- The forms of expressions: a row for each word or sign that begins one, and for each that goes on behind one.
-use Rattle.std.specs.Prelude.{ℕ, true, false, Option, Some, None}
+-- The forms of expressions: a row for each word or sign that begins one, and for each that goes on after one.
+use Rattle.std.specs.Prelude.{ℕ, true, false, List, [], Option, Some, None}
 use Rattle.vtl_values.specs.declared.place.Place.{Place}
 use Rattle.vtl_values.specs.declared.value.Value.TheVariants as value
 use Rattle.vtl_tokens.specs.declared.keyword.Keyword.{Keyword}
@@ -29,28 +29,30 @@ use Rattle.vtl_syntax.specs.declared.words.JoinFunction.TheVariants as join_word
 use Rattle.vtl_syntax.specs.declared.words.AggregateFunction.TheVariants as aggregate_word
 use Rattle.vtl_syntax.specs.declared.words.WindowFunction.TheVariants as window_word
 use Rattle.vtl_syntax.specs.declared.words.OffsetFunction.TheVariants as offset_word
+use Rattle.vtl_syntax.specs.declared.words.TimeFunction.TheVariants as time_word
 use Rattle.vtl_grammar.specs.Marks.{Mark, key, sign}
-use Rattle.vtl_grammar.specs.Rules.{Rule, name, ◌▸◌, Of, word, sig, expr, close_paren, commas, listed}
+use Rattle.vtl_grammar.specs.Rules.{Rule, name, ◌▸◌, option, Of, At, Text, word, sig, expr, close_paren, commas, listed}
 use Rattle.vtl_grammar.specs.Clauses.{literal, literal_of, clause_rule, clause_of}
-use Rattle.vtl_grammar.specs.Calls.{Form, unary, round, binary, between, match_characters, substr, replace, exists_in, sets, difference, join, aggregate, count, window, offset, rank, check_datapoint, hierarchy, check_hierarchy, check}
+use Rattle.vtl_grammar.specs.Calls.{Form, unary, round, binary, between, match_characters, substr, replace, exists_in, sets, difference, join, aggregate, count, window, offset, rank, time, timeshift, fill_time_series, check_datapoint, hierarchy, check_hierarchy, check}
 
--- a form that goes on behind an expression of its level or a higher one
+-- a form that goes on after an expression: its own precedence, and the one that its operand has at least
 pub record Tail : Type 0 where
-  pub level : ℕ
+  pub precedence : ℕ
+  pub operand : ℕ
   pub rule : Rule
   pub tree : Expr → Of rule → Place → Expr
 
 -- "if" expr "then" expr "else" expr
 abbrev pub conditional : Form
-conditional = record { level = 0; rule = expr 0 ▸ word words.Then ▸ expr 0 ▸ word words.Else ▸ expr 0; tree = λ v p. tree.If v.0 v.1.1.0 v.1.1.1.1 p }
+conditional = record { precedence = 0; rule = expr 0 ▸ word words.Then ▸ expr 0 ▸ word words.Else ▸ expr 0; tree = λ v p. tree.If v.0 v.1.1.0 v.1.1.1.1 p }
 
 -- "(" expr ")"
 abbrev pub bracket : Form
-bracket = record { level = 7; rule = expr 0 ▸ close_paren; tree = λ v p. tree.Bracket v.0 p }
+bracket = record { precedence = 7; rule = expr 0 ▸ close_paren; tree = λ v p. tree.Bracket v.0 p }
 
 -- ("+" | "-" | "not") e6
 abbrev pub signed_form : Prefix → Form
-signed_form s = record { level = 6; rule = expr 6; tree = λ v p. tree.Signed s v p }
+signed_form s = record { precedence = 6; rule = expr 6; tree = λ v p. tree.Signed s v p }
 
 abbrev pub form_of : Mark → Option Form
 form_of (key words.If) = Some conditional
@@ -98,6 +100,11 @@ form_of (key words.RatioToReport) = Some (window window_word.RatioToReport)
 form_of (key words.Lag) = Some (offset offset_word.Lag)
 form_of (key words.Lead) = Some (offset offset_word.Lead)
 form_of (key words.Rank) = Some rank
+form_of (key words.FlowToStock) = Some (time time_word.FlowToStock)
+form_of (key words.StockToFlow) = Some (time time_word.StockToFlow)
+form_of (key words.PeriodIndicator) = Some (time time_word.PeriodIndicator)
+form_of (key words.Timeshift) = Some timeshift
+form_of (key words.FillTimeSeries) = Some fill_time_series
 form_of (key words.CheckDatapoint) = Some check_datapoint
 form_of (key words.Hierarchy) = Some hierarchy
 form_of (key words.CheckHierarchy) = Some check_hierarchy
@@ -106,24 +113,50 @@ form_of _ = None
 
 -- (rel | "<>") e4
 abbrev pub compared : Comparison → Tail
-compared s = record { level = 3; rule = expr 4; tree = λ l v p. tree.Compare l s v p }
+compared s = record { precedence = 3; operand = 3; rule = expr 4; tree = λ l v p. tree.Compare l s v p }
 
 -- ("in" | "not_in") "{" lit {"," lit} "}"
 abbrev pub member_of_set : InSign → Tail
-member_of_set s = record { level = 3; rule = sig signs.LeftBrace ▸ commas literal ▸ sig signs.RightBrace; tree = λ l v p. tree.In l s (listed literal_of v.1.0) p }
+member_of_set s = record { precedence = 3; operand = 3; rule = sig signs.LeftBrace ▸ commas literal ▸ sig signs.RightBrace; tree = λ l v p. tree.In l s (listed literal_of v.1.0) p }
 
 -- ("+" | "-" | "||") e5
 abbrev pub summed : SumSign → Tail
-summed s = record { level = 4; rule = expr 5; tree = λ l v p. tree.Sum l s v p }
+summed s = record { precedence = 4; operand = 4; rule = expr 5; tree = λ l v p. tree.Sum l s v p }
 
 -- ("*" | "/") e6
 abbrev pub multiplied : ProductSign → Tail
-multiplied s = record { level = 5; rule = expr 6; tree = λ l v p. tree.Product l s v p }
+multiplied s = record { precedence = 5; operand = 5; rule = expr 6; tree = λ l v p. tree.Product l s v p }
+
+-- the precedence of a literal
+abbrev pub literal_precedence : ℕ
+literal_precedence = 8
+
+-- the precedence of a name, which is the highest
+abbrev pub top : ℕ
+top = 9
+
+-- the name that an expression is, where it is one
+abbrev pub name_in : Expr → At Text
+name_in (tree.Name n p) = record { value = n; place = p }
+name_in e = record { value = []; place = record { line = 0; column = 0 } }
+
+-- name "(" [expr {"," expr}] ")"
+abbrev pub call_of_name : Tail
+call_of_name = record {
+  precedence = 7;
+  operand = top;
+  rule = option (commas (expr 0)) close_paren;
+  tree = λ l v p. tree.CallOf (name_in l).value (items_of v.0) (name_in l).place;
+}
+  where
+    items_of : Option (Of (commas (expr 0))) → List Expr
+    items_of None = []
+    items_of (Some v) = listed (λ e. e) v
 
 abbrev pub tail_of : Mark → Option Tail
-tail_of (key words.Or) = Some (record { level = 1; rule = expr 2; tree = λ l v p. tree.Or l or_sign.Or v p })
-tail_of (key words.Xor) = Some (record { level = 1; rule = expr 2; tree = λ l v p. tree.Or l or_sign.Xor v p })
-tail_of (key words.And) = Some (record { level = 2; rule = expr 3; tree = λ l v p. tree.And l v p })
+tail_of (key words.Or) = Some (record { precedence = 1; operand = 1; rule = expr 2; tree = λ l v p. tree.Or l or_sign.Or v p })
+tail_of (key words.Xor) = Some (record { precedence = 1; operand = 1; rule = expr 2; tree = λ l v p. tree.Or l or_sign.Xor v p })
+tail_of (key words.And) = Some (record { precedence = 2; operand = 2; rule = expr 3; tree = λ l v p. tree.And l v p })
 tail_of (sign signs.Equal) = Some (compared compare.Equal)
 tail_of (sign signs.NotEqual) = Some (compared compare.NotEqual)
 tail_of (sign signs.LessThan) = Some (compared compare.Less)
@@ -137,13 +170,10 @@ tail_of (sign signs.Minus) = Some (summed sum_sign.Minus)
 tail_of (sign signs.Bars) = Some (summed sum_sign.Join)
 tail_of (sign signs.Star) = Some (multiplied product_sign.Times)
 tail_of (sign signs.Slash) = Some (multiplied product_sign.Over)
-tail_of (sign signs.Hash) = Some (record { level = 7; rule = name; tree = λ l v p. tree.Member l v.value p })
-tail_of (sign signs.LeftBracket) = Some (record { level = 7; rule = clause_rule ▸ sig signs.RightBracket; tree = λ l v p. tree.Clause l (clause_of v.0) p })
+tail_of (sign signs.LeftParen) = Some call_of_name
+tail_of (sign signs.Hash) = Some (record { precedence = 7; operand = 7; rule = name; tree = λ l v p. tree.Member l v.value p })
+tail_of (sign signs.LeftBracket) = Some (record { precedence = 7; operand = 7; rule = clause_rule ▸ sig signs.RightBracket; tree = λ l v p. tree.Clause l (clause_of v.0) p })
 tail_of _ = None
-
--- the level of a name or a literal
-abbrev pub top : ℕ
-top = 8
 
 -- a name, or a literal without a sign
 abbrev pub leaf_in : TokenKind → Place → Option Expr
@@ -160,3 +190,7 @@ leaf_in (what.Reserved k) p = of_word k p
     of_word _ p = None
 leaf_in (what.Sign s) p = None
 leaf_in what.End p = None
+
+abbrev pub leaf_precedence : TokenKind → ℕ
+leaf_precedence (what.Name n) = top
+leaf_precedence _ = literal_precedence

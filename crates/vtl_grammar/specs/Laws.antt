@@ -1,7 +1,6 @@
 -- What reading answers, by the grammar alone.
-use Rattle.std.specs.Prelude.{◌≡◌, ℕ, length, [], ◌∷◌, ◌++◌, Bool, true, false, Ok, Err, ◌↔◌}
+use Rattle.std.specs.Prelude.{◌≡◌, ℕ, length, [], ◌∷◌, ◌++◌, Bool, true, false, Result, Ok, Err, ◌↔◌}
 use Rattle.vtl_values.specs.declared.place.Place.{Place}
-use Rattle.vtl_tokens.specs.declared.token.Token.{Token}
 use Rattle.vtl_tokens.specs.declared.token.TokenKind.TheVariants as what
 use Rattle.vtl_tokens.specs.declared.keyword.Keyword.{Keyword}
 use Rattle.vtl_tokens.specs.declared.keyword.Keyword.TheVariants as words
@@ -9,7 +8,7 @@ use Rattle.vtl_syntax.specs.declared.script.Script.{Script}
 use Rattle.vtl_grammar.specs.Marks.{Tokens, at}
 use Rattle.vtl_grammar.specs.Scripts.{IsScript, IsScriptAtLarge, language, LEVELS}
 use Rattle.vtl_grammar.specs.Faults as fault
-use Rattle.vtl_grammar.specs.Faults.{GoesOn, GoesNoFurther, IsDeepScript, IsLongScript, IsLeftOutAt, IsFault}
+use Rattle.vtl_grammar.specs.Faults.{Fault, GoesOn, GoesNoFurther, GoesOnThere, IsLongScript, IsLeftOutAt, IsFault, IsParsed}
 use Rattle.vtl_grammar.specs.Reading.{Kind, Expected, TooDeep, TooMany, Halt, Read, got}
 use Rattle.vtl_grammar.specs.ScriptReading.{read_script}
 
@@ -20,8 +19,8 @@ read_whole ts = read_script (language (length ts)) LEVELS ts
 -- what a kind of halt says of the token: no script of any limits goes on with it, or one of another limit does
 abbrev pub IsReason : Kind → Tokens → Tokens → Type 0
 IsReason Expected front rest = GoesNoFurther IsScriptAtLarge front rest
-IsReason TooDeep front rest = (t : Token) × (ts : Tokens) × (rest ≡ t ∷ ts) × GoesOn IsDeepScript (front ++ t ∷ [])
-IsReason (TooMany j) front rest = (t : Token) × (ts : Tokens) × (rest ≡ t ∷ ts) × GoesOn IsLongScript (front ++ t ∷ [])
+IsReason TooDeep front rest = GoesOnThere IsScriptAtLarge front rest × (GoesOnThere IsLongScript front rest → ⊥)
+IsReason (TooMany j) front rest = GoesOnThere IsLongScript front rest
 
 -- some script goes on with the tokens before the halt, and none with the next
 pub record StopsAt (ts : Tokens) (e : Halt) : Type 0 where
@@ -78,3 +77,7 @@ FaultsOf (TooMany j) ts front rest = IsFault ts fault.TooMany rest
 -- where reading stops there is that fault
 abbrev pub TellsFaults : Type 0
 TellsFaults = (ts : Tokens) (e : Halt) (s : StopsAt ts e) → FaultsOf e.kind ts s.front e.rest
+
+-- tokens are one script at most, or have one fault at one place, so the kinds of faults are told apart
+abbrev pub OneAnswer : Type 0
+OneAnswer = (ts : Tokens) (a b : Result Script (Fault × Tokens)) → IsParsed ts a → IsParsed ts b → a ≡ b

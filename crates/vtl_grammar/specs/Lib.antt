@@ -5,8 +5,11 @@ pub mod Calls
 pub mod Forms
 pub mod Expressions
 pub mod Rulesets
+pub mod Operators
 pub mod Scripts
 pub mod Faults
 pub mod Reading
 pub mod ScriptReading
 pub mod Laws
+pub mod LeftOut
+pub mod Parsed

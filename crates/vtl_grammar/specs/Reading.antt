@@ -10,10 +10,10 @@ use Rattle.vtl_tokens.specs.declared.sign.Sign.TheVariants as signs
 use Rattle.vtl_syntax.specs.declared.expr.Expr.{Expr}
 use Rattle.vtl_syntax.specs.declared.expr.Clause.{Clause}
 use Rattle.vtl_grammar.specs.Marks.{Mark, key, sign, Tokens, of_mark, sort_of, mark_in}
-use Rattle.vtl_grammar.specs.Rules.{Rule, mark, name, integer, number, text, part, ◌▸◌, option, suffix, either, repeated, prefixed, here, Prefix, label, component, Part, OfPart, expression, clause, Slot, filtering, calculating, keeping, renaming, Limit, Counts, Of, At, Text, first_place}
-use Rattle.vtl_grammar.specs.Clauses.{slot_rule, slot_tree}
+use Rattle.vtl_grammar.specs.Rules.{Rule, mark, name, integer, number, text, part, ◌▸◌, option, suffix, either, repeated, prefixed, here, Prefix, label, component, Part, OfPart, expression, clause, JoinPart, filtering, calculating, keeping, renaming, Limit, Counts, Of, At, Text, first_place}
+use Rattle.vtl_grammar.specs.Clauses.{join_part_rule, join_part_tree}
 use Rattle.vtl_grammar.specs.Calls.{Form}
-use Rattle.vtl_grammar.specs.Forms.{Tail, form_of, tail_of, leaf_in, top}
+use Rattle.vtl_grammar.specs.Forms.{Tail, form_of, tail_of, leaf_in, leaf_precedence}
 
 -- why reading stops: no script of any limits goes on, or a limit is passed
 pub data Kind : Type 0 where
@@ -21,7 +21,7 @@ pub data Kind : Type 0 where
   TooDeep : Kind
   TooMany : Limit → Kind
 
--- what was read, how many levels it has, and the tokens behind it
+-- what was read, how many levels it has, and the tokens after it
 pub record Got (A : Type 0) : Type 0 where
   pub value : A
   pub levels : ℕ
@@ -59,23 +59,23 @@ abbrev pub starts : List ℕ → Tokens → Bool
 starts ks [] = false
 starts ks (t ∷ ts) = member (sort_of t.what) ks
 
--- the sorts with which an expression of any level begins
+-- the sorts with which an expression of any precedence begins
 abbrev pub heads_of_all : List ℕ
-heads_of_all = 0 ∷ 1 ∷ 2 ∷ 3 ∷ map of_mark (key words.True ∷ key words.False ∷ key words.Null ∷ sign signs.LeftParen ∷ sign signs.Plus ∷ sign signs.Minus ∷ key words.Not ∷ key words.Abs ∷ key words.Ceil ∷ key words.Floor ∷ key words.Trim ∷ key words.Ltrim ∷ key words.Rtrim ∷ key words.Upper ∷ key words.Lower ∷ key words.Length ∷ key words.Isnull ∷ key words.Round ∷ key words.Trunc ∷ key words.Mod ∷ key words.Nvl ∷ key words.Instr ∷ key words.Between ∷ key words.MatchCharacters ∷ key words.Substr ∷ key words.Replace ∷ key words.ExistsIn ∷ key words.Union ∷ key words.Intersect ∷ key words.Setdiff ∷ key words.Symdiff ∷ key words.InnerJoin ∷ key words.LeftJoin ∷ key words.FullJoin ∷ key words.CrossJoin ∷ key words.Sum ∷ key words.Avg ∷ key words.Count ∷ key words.Min ∷ key words.Max ∷ key words.Median ∷ key words.FirstValue ∷ key words.LastValue ∷ key words.RatioToReport ∷ key words.Lag ∷ key words.Lead ∷ key words.Rank ∷ key words.CheckDatapoint ∷ key words.Hierarchy ∷ key words.CheckHierarchy ∷ key words.Check ∷ [])
+heads_of_all = 0 ∷ 1 ∷ 2 ∷ 3 ∷ map of_mark (key words.True ∷ key words.False ∷ key words.Null ∷ sign signs.LeftParen ∷ sign signs.Plus ∷ sign signs.Minus ∷ key words.Not ∷ key words.Abs ∷ key words.Ceil ∷ key words.Floor ∷ key words.Trim ∷ key words.Ltrim ∷ key words.Rtrim ∷ key words.Upper ∷ key words.Lower ∷ key words.Length ∷ key words.Isnull ∷ key words.Round ∷ key words.Trunc ∷ key words.Mod ∷ key words.Nvl ∷ key words.Instr ∷ key words.Between ∷ key words.MatchCharacters ∷ key words.Substr ∷ key words.Replace ∷ key words.ExistsIn ∷ key words.Union ∷ key words.Intersect ∷ key words.Setdiff ∷ key words.Symdiff ∷ key words.InnerJoin ∷ key words.LeftJoin ∷ key words.FullJoin ∷ key words.CrossJoin ∷ key words.Sum ∷ key words.Avg ∷ key words.Count ∷ key words.Min ∷ key words.Max ∷ key words.Median ∷ key words.FirstValue ∷ key words.LastValue ∷ key words.RatioToReport ∷ key words.Lag ∷ key words.Lead ∷ key words.Rank ∷ key words.FlowToStock ∷ key words.StockToFlow ∷ key words.PeriodIndicator ∷ key words.Timeshift ∷ key words.FillTimeSeries ∷ key words.CheckDatapoint ∷ key words.Hierarchy ∷ key words.CheckHierarchy ∷ key words.Check ∷ [])
 
--- the sorts with which an expression of this level begins
+-- the sorts with which an expression of this precedence begins
 abbrev pub heads : ℕ → List ℕ
 heads m = heads_of_all ++ (if nat_le m 0 then of_mark (key words.If) ∷ [] else [])
 
-abbrev pub slot_heads : Slot → List ℕ
-slot_heads filtering = of_mark (key words.Filter) ∷ []
-slot_heads calculating = of_mark (key words.Calc) ∷ []
-slot_heads keeping = of_mark (key words.Keep) ∷ of_mark (key words.Drop) ∷ []
-slot_heads renaming = of_mark (key words.Rename) ∷ []
+abbrev pub join_part_firsts : JoinPart → List ℕ
+join_part_firsts filtering = of_mark (key words.Filter) ∷ []
+join_part_firsts calculating = of_mark (key words.Calc) ∷ []
+join_part_firsts keeping = of_mark (key words.Keep) ∷ of_mark (key words.Drop) ∷ []
+join_part_firsts renaming = of_mark (key words.Rename) ∷ []
 
-abbrev pub part_heads : Part → List ℕ
-part_heads (expression m) = heads m
-part_heads (clause k) = slot_heads k
+abbrev pub part_firsts : Part → List ℕ
+part_firsts (expression m) = heads m
+part_firsts (clause k) = join_part_firsts k
 
 -- the sorts of the two tokens of a prefix
 abbrev pub first_sort : Prefix → ℕ
@@ -92,7 +92,7 @@ firsts name = 0 ∷ []
 firsts integer = 1 ∷ []
 firsts number = 2 ∷ []
 firsts text = 3 ∷ []
-firsts (part q) = part_heads q
+firsts (part q) = part_firsts q
 firsts (g ▸ h) = firsts g
 firsts (option g h) = firsts g ++ firsts h
 firsts (suffix g h) = firsts g
@@ -144,7 +144,7 @@ abbrev pub mapped : {A B : Type 0} → (A → B) → Read A → Read B
 mapped f (Ok a) = got (f a.value) a.levels a.rest
 mapped f (Err e) = Err e
 
--- one behind the other
+-- one after the other
 abbrev pub both : {A B : Type 0} → Reader A → Reader B → Reader (A × B)
 both r q ts = r ts >>= λ a. q a.rest >>= λ b. got (a.value, b.value) (max a.levels b.levels) b.rest
 
@@ -202,10 +202,10 @@ read L inner (here g) = λ ts. mapped (λ v. (first_place ts, v)) (read L inner 
 
 -- ---- expressions
 
--- an expression, and the level of its outermost form
+-- an expression, and the precedence of its outermost form
 pub record Front : Type 0 where
   pub expr : Expr
-  pub level : ℕ
+  pub precedence : ℕ
 
 abbrev pub form_at : Option Mark → Option Form
 form_at None = None
@@ -215,18 +215,18 @@ abbrev pub tail_at : Option Mark → Option Tail
 tail_at None = None
 tail_at (Some m) = tail_of m
 
--- what goes on behind a front of that level, in an expression of level m
-abbrev pub between : (m level : ℕ) → Option Tail → Option Tail
-between m level None = None
-between m level (Some tail) = if nat_le m tail.level && nat_le tail.level level then Some tail else None
+-- what goes on after a front of that precedence, in an expression of precedence m
+abbrev pub between : (m precedence : ℕ) → Option Tail → Option Tail
+between m precedence None = None
+between m precedence (Some tail) = if nat_le m tail.precedence && nat_le tail.operand precedence then Some tail else None
 
--- the front of an expression of level m, with at most d levels
+-- the front of an expression of precedence m, with at most d levels
 abbrev pub front_by : Counts → ((q : Part) → Reader (OfPart q)) → (d m : ℕ) → Token → Tokens → Option Expr → Option Form → Read Front
-front_by L inner d m t ts (Some e) f = got (record { expr = e; level = top }) 0 ts
+front_by L inner d m t ts (Some e) f = if nat_le m (leaf_precedence t.what) then got (record { expr = e; precedence = leaf_precedence t.what }) 0 ts else halt Expected (t ∷ ts)
 front_by L inner d m t ts None None = halt Expected (t ∷ ts)
 front_by L inner d m t ts None (Some form) =
-    if nat_le m form.level
-    then (if nat_lt 0 d then (read L inner form.rule ts >>= λ v. got (record { expr = form.tree v.value t.place; level = form.level }) (suc v.levels) v.rest) else halt TooDeep (t ∷ ts))
+    if nat_le m form.precedence
+    then (if nat_lt 0 d then (read L inner form.rule ts >>= λ v. got (record { expr = form.tree v.value t.place; precedence = form.precedence }) (suc v.levels) v.rest) else halt TooDeep (t ∷ ts))
     else halt Expected (t ∷ ts)
 
 abbrev pub read_front : Counts → ((q : Part) → Reader (OfPart q)) → (d m : ℕ) → Reader Front
@@ -238,28 +238,28 @@ abbrev pub tail_by : Counts → ((q : Part) → Reader (OfPart q)) → (d : ℕ)
 tail_by L inner d more f h t ts None = got f.expr h (t ∷ ts)
 tail_by L inner d more f h t ts (Some tail) =
     if nat_lt h d
-    then (read L inner tail.rule ts >>= λ v. more (record { expr = tail.tree f.expr v.value t.place; level = tail.level }) (suc (max h v.levels)) v.rest)
+    then (read L inner tail.rule ts >>= λ v. more (record { expr = tail.tree f.expr v.value t.place; precedence = tail.precedence }) (suc (max h v.levels)) v.rest)
     else halt TooDeep (t ∷ ts)
 
 -- the tails, of which there are fewer than n
 abbrev pub read_tails : Counts → ((q : Part) → Reader (OfPart q)) → (d m n : ℕ) → Front → ℕ → Reader Expr
 read_tails L inner d m zero f h ts = got f.expr h ts
 read_tails L inner d m (suc n) f h [] = got f.expr h []
-read_tails L inner d m (suc n) f h (t ∷ ts) = tail_by L inner d (read_tails L inner d m n) f h t ts (between m f.level (tail_at (mark_in t.what)))
+read_tails L inner d m (suc n) f h (t ∷ ts) = tail_by L inner d (read_tails L inner d m n) f h t ts (between m f.precedence (tail_at (mark_in t.what)))
 
 abbrev pub read_expr : Counts → ((q : Part) → Reader (OfPart q)) → (d m : ℕ) → Reader Expr
 read_expr L inner d m ts = read_front L inner d m ts >>= λ f. read_tails L inner d m (suc d) f.value f.levels f.rest
 
 -- a clause in a join, which is a level of its own
-abbrev pub read_slot : Counts → ((q : Part) → Reader (OfPart q)) → ℕ → Slot → Reader Clause
-read_slot L inner d k ts =
-    if starts (slot_heads k) ts
-    then (if nat_lt 0 d then (read L inner (slot_rule k) ts >>= λ v. got (slot_tree k v.value) (suc v.levels) v.rest) else halt TooDeep ts)
+abbrev pub read_join_part : Counts → ((q : Part) → Reader (OfPart q)) → ℕ → JoinPart → Reader Clause
+read_join_part L inner d k ts =
+    if starts (join_part_firsts k) ts
+    then (if nat_lt 0 d then (read L inner (join_part_rule k) ts >>= λ v. got (join_part_tree k v.value) (suc v.levels) v.rest) else halt TooDeep ts)
     else halt Expected ts
 
 abbrev pub read_part : Counts → ((q : Part) → Reader (OfPart q)) → ℕ → (q : Part) → Reader (OfPart q)
 read_part L inner d (expression m) = read_expr L inner d m
-read_part L inner d (clause k) = read_slot L inner d k
+read_part L inner d (clause k) = read_join_part L inner d k
 
 -- no levels are left
 abbrev pub no_part : (q : Part) → Reader (OfPart q)

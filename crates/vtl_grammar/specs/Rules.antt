@@ -11,13 +11,16 @@ use Rattle.vtl_syntax.specs.declared.expr.Expr.{Expr}
 use Rattle.vtl_syntax.specs.declared.expr.Clause.{Clause}
 use Rattle.vtl_grammar.specs.Marks.{Mark, key, sign, Tokens, at, kind_of}
 
--- what is counted: the operands of a call behind the second, the rules of a ruleset behind the first, the statements
--- and the rulesets of a script, and the items of a list that has no limit of its own
+-- what is counted: the operands of a call after the second, the rules of a ruleset and the parameters of an operator
+-- after the first, the statements, rulesets and operators of a script, and the items of a list that has no limit of
+-- its own
 pub data Limit : Type 0 where
   operands : Limit
   rules : Limit
+  parameters : Limit
   statements : Limit
   rulesets : Limit
+  operators : Limit
   lists : Limit
 
 -- how many of each there may be
@@ -25,16 +28,16 @@ abbrev pub Counts : Type 0
 Counts = Limit → ℕ
 
 -- the places for a clause in a join
-pub data Slot : Type 0 where
-  filtering : Slot
-  calculating : Slot
-  keeping : Slot
-  renaming : Slot
+pub data JoinPart : Type 0 where
+  filtering : JoinPart
+  calculating : JoinPart
+  keeping : JoinPart
+  renaming : JoinPart
 
--- what has levels: an expression of this level or a higher one, or a clause in a join
+-- what has levels: an expression of this precedence or a higher one, or a clause in a join
 pub data Part : Type 0 where
   expression : ℕ → Part
-  clause : Slot → Part
+  clause : JoinPart → Part
 
 abbrev pub OfPart : Part → Type 0
 OfPart (expression m) = Expr

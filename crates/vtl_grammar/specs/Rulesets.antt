@@ -126,13 +126,10 @@ hierarchy_rules_of p v = record {
   place = p;
 }
 
--- "define" (dpr | hr) ";"
+-- dpr | hr
 abbrev pub ruleset_rule : Rule
-ruleset_rule = word words.Define ▸ either datapoint_rules hierarchy_rules ▸ semicolon
+ruleset_rule = either datapoint_rules hierarchy_rules
 
-abbrev pub rules_of : Place → Of datapoint_rules ⊎ Of hierarchy_rules → Ruleset
-rules_of p (inl v) = kind.Datapoint (datapoint_rules_of p v)
-rules_of p (inr v) = kind.Hierarchy (hierarchy_rules_of p v)
-
-abbrev pub ruleset_of : Of ruleset_rule → Ruleset
-ruleset_of v = rules_of v.0 v.1.0
+abbrev pub ruleset_of : Place → Of ruleset_rule → Ruleset
+ruleset_of p (inl v) = kind.Datapoint (datapoint_rules_of p v)
+ruleset_of p (inr v) = kind.Hierarchy (hierarchy_rules_of p v)

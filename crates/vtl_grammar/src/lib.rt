@@ -2,9 +2,9 @@
 //!
 //! `specs/` has the grammar of `docs/language.md`, section "Grammar", as rules that are data, with a row for each form
 //! of expression, the tokens that a rule spells, and a reader that goes from left to right and looks at one token, two
-//! before a name with a colon or a component. `laws` proves that the reader answers exactly by the grammar: it gives
-//! the script that the tokens are, tokens are one script at most, and it stops at the first token with which no script
-//! within the limits goes on. The parser is proved to answer as the reader does.
+//! at a name with a colon or a component and at a definition. `laws` proves that the reader answers exactly by the
+//! grammar: it gives the script that the tokens are, tokens are one script at most or have one fault, and it stops at
+//! the first token with which no script within the limits goes on. The parser is proved to answer as the reader does.
 //!
 //! It stands on `vtl_tokens` and `vtl_syntax`.
 #![tactic(auto)]

@@ -3,6 +3,7 @@ pub mod Scans
 pub mod Literals
 pub mod Pieces
 pub mod Places
+pub mod Tokens
 pub mod Texts
 pub mod Answers
 pub mod Laws

@@ -4,6 +4,7 @@ ghost use Rattle.vtl_values.specs.declared.place.Place.{Place as PlaceOf};
 ghost use Rattle.vtl_lexer.specs.declared.stop.LexFault.{LexFault as FaultOf};
 ghost use Rattle.vtl_lexer.specs.Places.{place_behind, place_after};
 ghost use Rattle.vtl_lexer.specs.Texts.{tokens_in, joined, tokens_from, tokens_of};
+ghost use Rattle.vtl_lexer.specs.Tokens.{AreOfText};
 
 use crate::piece::piece;
 use crate::stop::{LexFault, LexStop, PieceStop};
@@ -16,6 +17,8 @@ pub fn tokens(alloc: Global, text: &[u8]) -> Result<Vec<Token>, LexStop>
     requires { length text.now + 2 ≤ 2 ^ 32 }
     // The list that the text has.
     ensures ok { IfOk result (λ list. tokens_of text.now ≡ Ok list.items) }
+    // Each of them is a token that texts have, but for the last, which is the end.
+    ensures of_text { IfOk result (λ list. AreOfText list.items) }
     // The fault that it has in place of one.
     ensures fault { (fault : FaultOf) (place : PlaceOf) → result ≡ Err (LexStop.Fault fault place) → tokens_of text.now ≡ Err (fault, place) }
 {

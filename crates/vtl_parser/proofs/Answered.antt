@@ -11,14 +11,33 @@ use Rattle.vtl_syntax.specs.declared.script.Script.{Script}
 use Rattle.vtl_grammar.specs.Marks.{Tokens}
 use Rattle.vtl_grammar.specs.Rules.{first_place}
 use Rattle.vtl_grammar.specs.Faults as faults
-use Rattle.vtl_grammar.specs.Faults.{Fault}
+use Rattle.vtl_grammar.specs.Faults.{Fault, IsParsed}
 use Rattle.vtl_grammar.specs.Reading.{Kind, Expected, TooDeep, TooMany, Got, Halt, Read, halt, got}
 use Rattle.vtl_grammar.specs.Laws.{read_whole, Answers, passes_last}
 use Rattle.vtl_grammar.proofs.GrammarLaws.{reads_rightly}
-use Rattle.vtl_faults.specs.Parsed as meant
-use Rattle.vtl_faults.specs.Parsed.{word_in, expected_or_left_out, unexpected, before, told_by}
+use Rattle.vtl_grammar.specs.Parsed as meant
+use Rattle.vtl_grammar.specs.Parsed.{word_in, expected_or_left_out, unexpected, before, parsed, told_by}
+use Rattle.vtl_grammar.proofs.ParsedLaw.{parses_rightly, parses_all}
 use Rattle.vtl_parser.specs.Scripts.{levelless, whole_read}
-use Rattle.vtl_parser.specs.Parses.{IsEnded, before_end, only_end, placed_by, answered}
+use Rattle.vtl_parser.specs.Parses.{IsEnded, IsOnly, IsParsedAs, answered, before_end, only_end, placed_by}
+
+-- ---- the answer
+
+-- it is what the tokens are, and nothing else
+pub answered-only : (ts : Tokens) → IsOnly ts (answered ts)
+unfolding answered
+answered-only ts other = (only other, (λ e. subst (IsParsedAs ts) (sym e) (by_parsed (parsed (before_end ts)) (parses_rightly (before_end ts)))))
+  where
+    by_parsed : (x : Result Script (Fault × Tokens)) → IsParsed (before_end ts) x → IsParsedAs ts (placed_by (only_end ts) x)
+    by_parsed (Ok script) is = is
+    by_parsed (Err e) is = (e.1, is, refl)
+
+    only : (other : Result Script (Fault × Place)) → IsParsedAs ts other → other ≡ placed_by (only_end ts) (parsed (before_end ts))
+    only (Ok script) is = let e = parses_all (before_end ts) (Ok script) is in rw e refl
+    only (Err fault) (rest, is, at) = let e = parses_all (before_end ts) (Err (fault.0, rest)) is in rw (e, ← at) refl
+
+pub only-is : (ts : Tokens) (answer : Result Script (Fault × Place)) → answered ts ≡ answer → IsOnly ts answer
+only-is ts answer e = subst (IsOnly ts) e (answered-only ts)
 
 -- ---- what reading without levels says
 
@@ -76,7 +95,7 @@ no_word front (t ∷ []) (k ∷ ks) e =
 no_word front (t ∷ u ∷ ts) [] e = absurd cc
 no_word front (t ∷ u ∷ ts) (k ∷ ks) e = let next : kinds_of (u ∷ ts) ≡ ks ++ End ∷ [] = cc in no_word front (u ∷ ts) ks next
 
--- so it may stand behind the rest
+-- so it may stand after the rest
 with-end : (ts : Tokens) → IsEnded ts → (k : Kind) (front rest : Tokens) → meant.fault_of k front rest ≡ meant.fault_of k front (rest ++ only_end ts)
 with-end ts ended Expected front [] = sym (no_word front ts ended.0 ended.1)
 with-end ts ended Expected front (t ∷ us) = refl
@@ -94,17 +113,17 @@ before-front front rest =
     let long : length (front ++ rest) - length rest ≡ length front = omega (arith, length-append front rest) in
     ap (λ n. take n (front ++ rest)) long ∙ take-append_seam front rest
 
--- the tokens before a fault and behind it
+-- the tokens before a fault and after it
 pub record IsCut (ts : Tokens) (n : ℕ) (rest : Tokens) : Type 0 where
   pub before_it : before (before_end ts) rest ≡ take n ts
-  pub behind_it : rest ++ only_end ts ≡ drop n ts
+  pub after_it : rest ++ only_end ts ≡ drop n ts
 
 cut : (ts front rest : Tokens) (n : ℕ) → before_end ts ≡ front ++ rest → length front ≡ n → IsCut ts n rest
 cut ts front rest n is long =
     let all : ts ≡ front ++ (rest ++ only_end ts) = parts ts ∙ (ap (λ (us : Tokens). us ++ only_end ts) is ∙ append_assoc front rest (only_end ts)) in
     record {
       before_it = ap (λ (us : Tokens). before us rest) is ∙ (before-front front rest ∙ (sym (take-append_seam front (rest ++ only_end ts)) ∙ (ap (λ (m : ℕ). take m (front ++ (rest ++ only_end ts))) long ∙ sym (ap (λ (us : Tokens). take n us) all))));
-      behind_it = sym (drop-seam front (rest ++ only_end ts)) ∙ (ap (λ (m : ℕ). drop m (front ++ (rest ++ only_end ts))) long ∙ sym (ap (λ (us : Tokens). drop n us) all));
+      after_it = sym (drop-seam front (rest ++ only_end ts)) ∙ (ap (λ (m : ℕ). drop m (front ++ (rest ++ only_end ts))) long ∙ sym (ap (λ (us : Tokens). drop n us) all));
     }
 
 abbrev fails : Fault → Place → Result Script (Fault × Place)
@@ -132,7 +151,7 @@ stop-answered ts ended k rest e n long =
     told (read_whole (before_end ts)) k rest (halt-is (before_end ts) k rest e) ts
     ∙ (ap (λ (f : Fault). fails f (first_place (rest ++ only_end ts))) (with-end ts ended k (before (before_end ts) rest) rest)
     ∙ (ap (λ (front : Tokens). fails (meant.fault_of k front (rest ++ only_end ts)) (first_place (rest ++ only_end ts))) c.before_it
-    ∙ ap (λ (us : Tokens). fails (meant.fault_of k (take n ts) us) (first_place us)) c.behind_it))
+    ∙ ap (λ (us : Tokens). fails (meant.fault_of k (take n ts) us) (first_place us)) c.after_it))
 
 -- there are tokens, and the end is one
 pub some-tokens : (ts : Tokens) → IsEnded ts → 0 < length ts

@@ -1,4 +1,4 @@
--- What comes behind the operands of a call.
+-- What comes after the operands of a call.
 use Rattle.std.proofs.Common.{◌≡◌, ℕ, ◌+◌, ◌<◌, max, List, [], ◌∷◌, ◌++◌, map, Bool, true, false, cond, Option, Some, None, Ok, Err, inl, inr, refl, ap, ◌∙◌, arith}
 use Rattle.std.specs.Prelude.{nat_eq, ◌⊎◌, option_map}
 use Rattle.vtl_values.specs.declared.place.Place.{Place}
@@ -13,16 +13,11 @@ use Rattle.vtl_grammar.specs.Marks.{Tokens, sign, sort_of}
 use Rattle.vtl_grammar.specs.Rules.{Rule, ◌▸◌, either, Part, OfPart, expression, Of, operands, expr, comma}
 use Rattle.vtl_grammar.specs.Clauses.{groups, groups_of}
 use Rattle.vtl_grammar.specs.Calls.{over, over_of, over_or_groups, aggregate_of, second}
-use Rattle.vtl_grammar.specs.Reading.{Kind, TooMany, Read, Reader, halt, got, mapped, both, maybe, some, member, starts, firsts, read_mark, read_more, part_at, no_part}
+use Rattle.vtl_grammar.specs.Reading.{Kind, Read, Reader, halt, got, mapped, both, maybe, some, member, starts, firsts, read_mark, no_part, below}
 use Rattle.vtl_grammar.proofs.Sorts.{member-left}
-use Rattle.vtl_grammar.proofs.RuleLaws.{mapped-halts}
 use Rattle.vtl_cursor.specs.Limits.{limits}
 use Rattle.vtl_cursor.specs.Plain.{read_plain}
-use Rattle.vtl_cursor.specs.Views.{IsShown}
-use Rattle.vtl_cursor.proofs.Lists.{joined, is_full, is_whole}
-use Rattle.vtl_parser.specs.Views.{IsShownDeep}
-use Rattle.vtl_parser.proofs.ShownDeep.{shown_deep}
-use Rattle.vtl_parser.proofs.Operands.{seen, others-begin, others-go_on, others-halt}
+use Rattle.vtl_cursor.specs.Views.{IsShown, IsShownDeep}
 
 -- ---- one of two, or nothing
 
@@ -80,7 +75,7 @@ module _ (g h : Rule) (inner : (q : Part) → Reader (OfPart q)) (ts : Tokens) w
       let one : starts (firsts g ++ firsts h) ts ≡ starts (firsts h) ts = starts-right_only (firsts g) (firsts h) ts e in
       rw (one, e) (by_start (starts (firsts h) ts))
 
--- ---- one behind the other
+-- ---- one after the other
 
 module _ {A B : Type 0} (r : Reader A) (q : Reader B) (ts us : Tokens) where
   both-goes : (x : A) (y : B) (h l : ℕ) (vs : Tokens) → r ts ≡ got x h us → q us ≡ got y l vs → both r q ts ≡ got (x, y) (max h l) vs
@@ -89,11 +84,11 @@ module _ {A B : Type 0} (r : Reader A) (q : Reader B) (ts us : Tokens) where
   second-halts : (x : A) (h : ℕ) (k : Kind) (vs : Tokens) → r ts ≡ got x h us → q us ≡ halt k vs → both r q ts ≡ halt k vs
   second-halts x h k vs one two = rw (one, two) refl
 
--- ---- a window or groups, and the bracket behind them
+-- ---- a window or groups, and the bracket after them
 
 module _ (d : ℕ) (ts us : Tokens) where
   abbrev inner : (q : Part) → Reader (OfPart q)
-  inner = part_at limits d
+  inner = below limits d
 
   abbrev scope : Reader (Option (Of over ⊎ Of groups))
   scope = maybe (firsts (either over groups)) (read_plain limits inner (either over groups))
@@ -132,41 +127,3 @@ module _ (d : ℕ) (ts us : Tokens) where
           reads = rw levels at (both-goes scope (read_mark (sign signs.RightParen)) ts us (right_of over groups inner ts s.value) q h 0 vs (groups-are none x h s) closes);
           shows = aggregate-is s.value ∙ ap (λ (y : Option Groups). tree.Aggregate f e y p) s.shows;
         }
-
--- ---- the operands behind the second
-
-abbrev itself : Expr → Expr
-itself e = e
-
--- a comma and one more
-abbrev ks : List ℕ
-ks = firsts (comma ▸ expr 0)
-
-abbrev next_operand : ℕ → Reader Expr
-next_operand d = seen (expr 0) itself d
-
--- so many more of them at most
-abbrev pub read_others : (d n : ℕ) → Reader (List Expr)
-read_others d n = read_more ks operands (next_operand d) n
-
-module _ (d : ℕ) where
-  pub others-start : (ts : Tokens) → joined [] 0 (read_others d 6 ts) ≡ mapped (map second) (read_more ks operands (read_plain limits (part_at limits d) (comma ▸ expr 0)) 6 ts)
-  others-start ts = others-begin (expr 0) itself d operands 6 ts
-
-  module _ (front : List Expr) (h left : ℕ) (ts : Tokens) (total : Read (List (Place × Expr))) (so_far : joined front h (read_others d left ts) ≡ mapped (map second) total) where
-    -- a comma comes that is one too many
-    pub others-full : left ≡ 0 → starts ks ts ≡ true → total ≡ halt (TooMany operands) ts
-    others-full full some = mapped-halts (map second) total (TooMany operands) ts (is_full ks operands (next_operand d) front h left ts (mapped (map second) total) so_far full some)
-
-    -- no comma comes
-    pub others-end : starts ks ts ≡ false → IsShownDeep (λ v. map second v) front h ts total
-    others-end none = shown_deep (λ v. map second v) ts front h total (is_whole ks operands (next_operand d) front h left ts (mapped (map second) total) so_far none)
-
-    module _ (us vs : Tokens) (p : Place) (is : read_mark (sign signs.Comma) ts ≡ got p 0 us) where
-      -- behind a comma stands no operand
-      pub others-broken : (k : Kind) → 0 < left → part_at limits d (expression 0) us ≡ halt k vs → total ≡ halt k vs
-      others-broken k some e = mapped-halts (map second) total k vs (others-halt (expr 0) itself d operands front h left ts us vs p k (mapped (map second) total) so_far some is e)
-
-      -- one more stands there
-      pub others-next : (x : Expr) (h' next : ℕ) → next + 1 ≡ left → part_at limits d (expression 0) us ≡ got x h' vs → joined (front ++ x ∷ []) (max h h') (read_others d next vs) ≡ mapped (map second) total
-      others-next x h' next is_next e = others-go_on (expr 0) itself d operands front h left next ts us vs p x h' (mapped (map second) total) so_far is_next is (record { value = x; reads = e; shows = refl })

@@ -1,201 +1,146 @@
 -- Reading a script piece by piece.
-use Rattle.std.proofs.Common.{◌≡◌, ℕ, zero, suc, ◌+◌, ◌-◌, ◌≤◌, ◌<◌, max, length, List, [], ◌∷◌, ◌++◌, Bool, true, false, Ok, Err, inl, inr, refl, sym, ap, ◌∙◌, append_assoc, arith}
-use Rattle.std.proofs.lemmas.Bool.{cond-true, cond-false}
+use Rattle.std.proofs.Common.{◌≡◌, ℕ, suc, ◌+◌, ◌-◌, ◌≤◌, ◌<◌, max, length, List, [], ◌∷◌, ◌++◌, true, false, Ok, Err, refl, sym, ap, ◌∙◌, append_assoc, arith}
 use Rattle.std.proofs.lemmas.List.{append-nil, length-append}
 use Rattle.vtl_tokens.specs.declared.token.Token.{Token}
-use Rattle.vtl_syntax.specs.declared.script.Statement.{Statement}
 use Rattle.vtl_syntax.specs.declared.script.Script.{Script}
-use Rattle.vtl_syntax.specs.declared.ruleset.Ruleset.{Ruleset}
 use Rattle.vtl_grammar.specs.Marks.{Tokens}
-use Rattle.vtl_grammar.specs.Rules.{Of, statements, rulesets}
-use Rattle.vtl_grammar.specs.Rulesets.{ruleset_rule, ruleset_of}
-use Rattle.vtl_grammar.specs.Scripts.{Piece, script_of, statement_rule, statement_of}
-use Rattle.vtl_grammar.specs.Reading.{Kind, Expected, TooMany, Got, Read, Reader, halt, got, ◌>>=◌, mapped, both, choice, cons, starts, read, part_at}
-use Rattle.vtl_grammar.specs.ScriptReading.{read_statement, read_ruleset, statement_heads, ruleset_heads, one_more, read_pieces, read_script}
+use Rattle.vtl_grammar.specs.Rules.{Of}
+use Rattle.vtl_grammar.specs.Scripts.{PieceKind, a_statement, a_ruleset, an_operator, OfKind, piece_rule, piece_tree, Piece, all_of_kind, script_of}
+use Rattle.vtl_grammar.specs.Reading.{Kind, Read, halt, got, ◌>>=◌, mapped, both, cons, read, part_at}
+use Rattle.vtl_grammar.specs.ScriptReading.{Left, fewer, total, kind_at, limits_of, read_piece, read_pieces}
 use Rattle.vtl_cursor.specs.Limits.{limits}
-use Rattle.vtl_cursor.specs.Plain.{read_plain}
-use Rattle.vtl_cursor.proofs.PlainLaws.{read_plain-is}
+use Rattle.vtl_cursor.specs.Views.{IsShownDeep}
 use Rattle.vtl_parser.specs.RuleParts.{rule_read}
-use Rattle.vtl_parser.specs.Views.{IsShownDeep}
-use Rattle.vtl_parser.specs.Scripts.{levelless, added, remaining, script_read}
+use Rattle.vtl_parser.specs.Scripts.{HasRoom, IsStep, added, left_of, levelless, remaining, script_read}
+use Rattle.vtl_parser.proofs.Below.{below-read}
 
--- ---- one step of a reader
+-- the script with one more piece
+abbrev pub pushed : (k : PieceKind) → OfKind k → Script → Script
+pushed a_statement x s = record { statements = s.statements ++ x ∷ []; rulesets = s.rulesets; operators = s.operators }
+pushed a_ruleset x s = record { statements = s.statements; rulesets = s.rulesets ++ x ∷ []; operators = s.operators }
+pushed an_operator x s = record { statements = s.statements; rulesets = s.rulesets; operators = s.operators ++ x ∷ [] }
 
-module _ {A : Type 0} (ks : List ℕ) (r q : Reader A) (ts : Tokens) where
-  choice-first : starts ks ts ≡ true → choice ks r q ts ≡ r ts
-  choice-first some = cond-true (starts ks ts) (r ts) (q ts) some
+-- the counts are the same where each is
+same_left : (left left' : Left) → ((k : PieceKind) → left k ≡ left' k) → left ≡ left'
+same_left left left' e = λ i k. e k i
 
-  choice-second : starts ks ts ≡ false → choice ks r q ts ≡ q ts
-  choice-second none = cond-false (starts ks ts) (r ts) (q ts) none
+-- there is one piece less to come
+one_less : (k : PieceKind) (s : Script) → 0 < left_of s k → total (left_of s) ≡ suc (total (fewer k (left_of s)))
+one_less a_statement s some = omega arith
+one_less a_ruleset s some = omega arith
+one_less an_operator s some = omega arith
 
-module _ {A : Type 0} (r : Reader A) (q : Reader (List A)) (ts us : Tokens) where
-  abbrev goes_on_with : Read A → Read (List A)
-  goes_on_with x = mapped cons (x >>= λ a. q a.rest >>= λ b. got (a.value, b.value) (max a.levels b.levels) b.rest)
+pushed_left : (k : PieceKind) (x : OfKind k) (s : Script) (j : PieceKind) → fewer k (left_of s) j ≡ left_of (pushed k x s) j
+pushed_left a_statement x s a_statement = simp length-append (omega arith)
+pushed_left a_statement x s a_ruleset = omega arith
+pushed_left a_statement x s an_operator = omega arith
+pushed_left a_ruleset x s a_statement = omega arith
+pushed_left a_ruleset x s a_ruleset = simp length-append (omega arith)
+pushed_left a_ruleset x s an_operator = omega arith
+pushed_left an_operator x s a_statement = omega arith
+pushed_left an_operator x s a_ruleset = omega arith
+pushed_left an_operator x s an_operator = simp length-append (omega arith)
 
-  more-goes : (x : A) (h : ℕ) → r ts ≡ got x h us → mapped cons (both r q ts) ≡ mapped cons (q us >>= λ b. got (x, b.value) (max h b.levels) b.rest)
-  more-goes x h is = ap goes_on_with is
+pushed_all : (k : PieceKind) (x : OfKind k) (s : Script) (ps : List Piece) → added s ((k, x) ∷ ps) ≡ added (pushed k x s) ps
+pushed_all a_statement x s ps = let e = append_assoc s.statements (x ∷ []) (all_of_kind a_statement ps) in rw e refl
+pushed_all a_ruleset x s ps = let e = append_assoc s.rulesets (x ∷ []) (all_of_kind a_ruleset ps) in rw e refl
+pushed_all an_operator x s ps = let e = append_assoc s.operators (x ∷ []) (all_of_kind an_operator ps) in rw e refl
 
-  more-halts : (kind : Kind) → r ts ≡ halt kind us → mapped cons (both r q ts) ≡ halt kind us
-  more-halts kind is = ap goes_on_with is
+module _ (d : ℕ) (s : Script) (k : PieceKind) where
+  -- what is read after a piece
+  abbrev with_piece : OfKind k → ℕ → Read (List Piece) → Read (List Piece)
+  with_piece x h r = mapped cons (r >>= λ b. got ((k, x), b.value) (max h b.levels) b.rest)
 
-abbrev with_statement : Script → Statement → Script
-with_statement s x = record { statements = s.statements ++ x ∷ []; rulesets = s.rulesets }
+  by_rest : (x : OfKind k) (h : ℕ) (r : Read (List Piece)) → levelless (added s) (with_piece x h r) ≡ levelless (added (pushed k x s)) r
+  by_rest x h (Ok b) = ap (λ (z : Script). got z 0 b.rest) (pushed_all k x s b.value)
+  by_rest x h (Err e) = refl
 
-abbrev with_ruleset : Script → Ruleset → Script
-with_ruleset s x = record { statements = s.statements; rulesets = s.rulesets ++ x ∷ [] }
+  module _ (t : Token) (ts rest : Tokens) (begins : kind_at (left_of s) (t ∷ ts) ≡ got k 0 rest) where
+    begun : remaining d s (t ∷ ts) ≡ levelless (added s) (mapped cons (both (read_piece limits d k) (read_pieces limits d (total (left_of s)) (fewer k (left_of s))) (t ∷ ts)))
+    unfolding remaining
+    begun = ap (λ (x : Read PieceKind). levelless (added s) (x >>= λ j. mapped cons (both (read_piece limits d j.value) (read_pieces limits d (total (left_of s)) (fewer j.value (left_of s))) (t ∷ ts)))) begins
 
-module _ (d : ℕ) (s : Script) where
-  -- one piece more
-  statement-added : (x : Statement) (h : ℕ) (y : Read (List Piece)) → levelless (added s.statements s.rulesets) (mapped cons (y >>= λ b. got (inl x, b.value) (max h b.levels) b.rest)) ≡ levelless (added (s.statements ++ x ∷ []) s.rulesets) y
-  statement-added x h (Ok b) = let e : (s.statements ++ x ∷ []) ++ (script_of b.value).statements ≡ s.statements ++ x ∷ (script_of b.value).statements = append_assoc s.statements (x ∷ []) (script_of b.value).statements in rw e refl
-  statement-added x h (Err e) = refl
+    goes : (v : Of (piece_rule k)) (h : ℕ) (us : Tokens) → 0 < left_of s k → read limits (part_at limits d) (piece_rule k) (t ∷ ts) ≡ got v h us → remaining d s (t ∷ ts) ≡ remaining d (pushed k (piece_tree k v) s) us
+    unfolding remaining
+    goes v h us some is =
+        let less = one_less k s some in
+        let left = same_left (fewer k (left_of s)) (left_of (pushed k (piece_tree k v) s)) (pushed_left k (piece_tree k v) s) in
+        begun
+        ∙ rw is (by_rest (piece_tree k v) h (read_pieces limits d (total (left_of s)) (fewer k (left_of s)) us)
+        ∙ (ap (λ (n : ℕ). levelless (added (pushed k (piece_tree k v) s)) (read_pieces limits d n (fewer k (left_of s)) us)) less
+        ∙ ap (λ (l : Left). levelless (added (pushed k (piece_tree k v) s)) (read_pieces limits d (suc (total l)) l us)) left))
 
-  ruleset-added : (x : Ruleset) (h : ℕ) (y : Read (List Piece)) → levelless (added s.statements s.rulesets) (mapped cons (y >>= λ b. got (inr x, b.value) (max h b.levels) b.rest)) ≡ levelless (added s.statements (s.rulesets ++ x ∷ [])) y
-  ruleset-added x h (Ok b) = let e : (s.rulesets ++ x ∷ []) ++ (script_of b.value).rulesets ≡ s.rulesets ++ x ∷ (script_of b.value).rulesets = append_assoc s.rulesets (x ∷ []) (script_of b.value).rulesets in rw e refl
-  ruleset-added x h (Err e) = refl
+    halts : (kind : Kind) (us : Tokens) → read limits (part_at limits d) (piece_rule k) (t ∷ ts) ≡ halt kind us → remaining d s (t ∷ ts) ≡ halt kind us
+    halts kind us is = begun ∙ rw is refl
 
-  -- ---- a statement
+-- a script has room for one more piece, and then for one less
+stepped : (k : PieceKind) (x : OfKind k) (s : Script) → 0 < left_of s k → HasRoom s → HasRoom (pushed k x s)
+stepped a_statement x s some r = record { statements = simp length-append (let a = r.statements in omega arith); rulesets = r.rulesets; operators = r.operators }
+stepped a_ruleset x s some r = record { statements = r.statements; rulesets = simp length-append (let a = r.rulesets in omega arith); operators = r.operators }
+stepped an_operator x s some r = record { statements = r.statements; rulesets = r.rulesets; operators = simp length-append (let a = r.operators in omega arith) }
 
-  abbrev statement_more : (f m j : ℕ) → Reader (List Piece)
-  statement_more f m j = one_more m (TooMany statements) (read_statement limits d) (λ m'. read_pieces limits d f m' j)
+less_left : (k : PieceKind) (x : OfKind k) (s : Script) → 0 < left_of s k → total (left_of (pushed k x s)) < total (left_of s)
+less_left k x s some =
+    let less = one_less k s some in
+    let left = same_left (fewer k (left_of s)) (left_of (pushed k x s)) (pushed_left k x s) in
+    let fewer_still : total (fewer k (left_of s)) ≡ total (left_of (pushed k x s)) = ap total left in
+    omega arith
 
-  abbrev ruleset_more : (f m j : ℕ) → Reader (List Piece)
-  ruleset_more f m j = one_more j (TooMany rulesets) (read_ruleset limits d) (λ j'. read_pieces limits d f m j')
-
-  -- a statement comes next, or a ruleset, or neither
-  statement-first : (f m j : ℕ) (t : Token) (ts : Tokens) → starts statement_heads (t ∷ ts) ≡ true → read_pieces limits d (suc f) m j (t ∷ ts) ≡ statement_more f m j (t ∷ ts)
-  statement-first f m j t ts some = choice-first statement_heads (statement_more f m j) (choice ruleset_heads (ruleset_more f m j) (halt Expected)) (t ∷ ts) some
-
-  ruleset-first : (f m j : ℕ) (t : Token) (ts : Tokens) → starts statement_heads (t ∷ ts) ≡ false → starts ruleset_heads (t ∷ ts) ≡ true → read_pieces limits d (suc f) m j (t ∷ ts) ≡ ruleset_more f m j (t ∷ ts)
-  ruleset-first f m j t ts other some = choice-second statement_heads (statement_more f m j) (choice ruleset_heads (ruleset_more f m j) (halt Expected)) (t ∷ ts) other ∙ choice-first ruleset_heads (ruleset_more f m j) (halt Expected) (t ∷ ts) some
-
-  statement-is : (ts us : Tokens) (x : Statement) (h : ℕ) → IsShownDeep statement_of x h us (read_plain limits (part_at limits d) statement_rule ts) → read_statement limits d ts ≡ got (inl x) h us
-  statement-is ts us x h r =
-      ap (mapped (λ v. inl (statement_of v))) (sym (read_plain-is limits (part_at limits d) statement_rule ts) ∙ r.reads) ∙ ap (λ (y : Statement). got (inl y) h us) r.shows
-
-  one-statement : (f m j : ℕ) (t : Token) (ts us : Tokens) (x : Statement) (h : ℕ) → starts statement_heads (t ∷ ts) ≡ true → IsShownDeep statement_of x h us (read_plain limits (part_at limits d) statement_rule (t ∷ ts))
-      → levelless (added s.statements s.rulesets) (read_pieces limits d (suc f) (suc m) j (t ∷ ts)) ≡ levelless (added (s.statements ++ x ∷ []) s.rulesets) (read_pieces limits d f m j us)
-  one-statement f m j t ts us x h some r =
-      ap (levelless (added s.statements s.rulesets)) (statement-first f (suc m) j t ts some ∙ more-goes (read_statement limits d) (read_pieces limits d f m j) (t ∷ ts) us (inl x) h (statement-is (t ∷ ts) us x h r))
-      ∙ statement-added x h (read_pieces limits d f m j us)
-
-  pub statement-goes : (ts us : Tokens) (x : Statement) (h : ℕ) → length s.statements < 256 → starts statement_heads ts ≡ true → IsShownDeep statement_of x h us (read_plain limits (part_at limits d) statement_rule ts)
-      → remaining d s ts ≡ remaining d (with_statement s x) us
-  unfolding remaining
-  statement-goes [] us x h room some r = absurd cc
-  statement-goes (t ∷ ts) us x h room some r =
-      let longer : length (s.statements ++ x ∷ []) ≡ length s.statements + 1 = omega (arith, length-append s.statements (x ∷ [])) in
-      let m : ℕ = 255 - length s.statements in
-      let here : 256 - length s.statements ≡ suc (255 - length s.statements) = omega arith in
-      let fuel : suc (255 - length s.statements) + (64 - length s.rulesets) ≡ suc ((255 - length s.statements) + (64 - length s.rulesets)) = omega arith in
-      let there : 256 - length (s.statements ++ x ∷ []) ≡ 255 - length s.statements = omega arith in
-      rw (here, there, fuel) (one-statement ((255 - length s.statements) + (64 - length s.rulesets)) (255 - length s.statements) (64 - length s.rulesets) t ts us x h some r)
-
-  statement-halted : (f m j : ℕ) (t : Token) (ts us : Tokens) (kind : Kind) → starts statement_heads (t ∷ ts) ≡ true → read_plain limits (part_at limits d) statement_rule (t ∷ ts) ≡ halt kind us → read_pieces limits d (suc f) (suc m) j (t ∷ ts) ≡ halt kind us
-  statement-halted f m j t ts us kind some r =
-      statement-first f (suc m) j t ts some
-      ∙ more-halts (read_statement limits d) (read_pieces limits d f m j) (t ∷ ts) us kind (ap (mapped (λ v. inl (statement_of v))) (sym (read_plain-is limits (part_at limits d) statement_rule (t ∷ ts)) ∙ r))
-
-  pub statement-halts : (ts us : Tokens) (kind : Kind) → length s.statements < 256 → starts statement_heads ts ≡ true → read_plain limits (part_at limits d) statement_rule ts ≡ halt kind us → remaining d s ts ≡ halt kind us
-  unfolding remaining
-  statement-halts [] us kind room some r = absurd cc
-  statement-halts (t ∷ ts) us kind room some r =
-      let here : 256 - length s.statements ≡ suc (255 - length s.statements) = omega arith in
-      let fuel : suc (255 - length s.statements) + (64 - length s.rulesets) ≡ suc ((255 - length s.statements) + (64 - length s.rulesets)) = omega arith in
-      rw (here, fuel) (ap (levelless (added s.statements s.rulesets)) (statement-halted ((255 - length s.statements) + (64 - length s.rulesets)) (255 - length s.statements) (64 - length s.rulesets) t ts us kind some r))
-
-  full-of-statements : (j : ℕ) (t : Token) (ts : Tokens) → starts statement_heads (t ∷ ts) ≡ true → read_pieces limits d j 0 j (t ∷ ts) ≡ halt (TooMany statements) (t ∷ ts)
-  full-of-statements zero t ts some = choice-first statement_heads (halt (TooMany statements)) (choice ruleset_heads (halt (TooMany rulesets)) (halt Expected)) (t ∷ ts) some
-  full-of-statements (suc j) t ts some = statement-first j 0 (suc j) t ts some
-
-  pub statement-refused : (ts : Tokens) → length s.statements ≡ 256 → starts statement_heads ts ≡ true → remaining d s ts ≡ halt (TooMany statements) ts
-  unfolding remaining
-  statement-refused [] full some = absurd cc
-  statement-refused (t ∷ ts) full some =
-      let none : 256 - length s.statements ≡ 0 = omega arith in
-      let fuel : 0 + (64 - length s.rulesets) ≡ 64 - length s.rulesets = omega arith in
-      rw (none, fuel) (ap (levelless (added s.statements s.rulesets)) (full-of-statements (64 - length s.rulesets) t ts some))
-
-  -- ---- a ruleset
-
-  ruleset-is : (ts us : Tokens) (x : Ruleset) (h : ℕ) → IsShownDeep ruleset_of x h us (rule_read d ruleset_rule ts) → read_ruleset limits d ts ≡ got (inr x) h us
+-- for the depth as the code has it
+module _ (d : ℕ) (s : Script) (k : PieceKind) (ts rest : Tokens) (some : 0 < d) (begins : kind_at (left_of s) ts ≡ got k 0 rest) where
+  pub piece-goes : (x : OfKind k) (h : ℕ) (us : Tokens) → 0 < left_of s k → HasRoom s → IsShownDeep (piece_tree k) x h us (rule_read d (piece_rule k) ts) → IsStep (d - 1) s (pushed k x s) ts us
   unfolding rule_read
-  ruleset-is ts us x h r =
-      ap (mapped (λ v. inr (ruleset_of v))) (sym (read_plain-is limits (part_at limits d) ruleset_rule ts) ∙ r.reads) ∙ ap (λ (y : Ruleset). got (inr y) h us) r.shows
+  piece-goes x h us more room w =
+      let reads : read limits (part_at limits (d - 1)) (piece_rule k) ts ≡ got w.value h us = sym (below-read limits d (piece_rule k) ts some) ∙ w.reads in
+      record {
+        same = by_tokens ts begins reads ∙ ap (λ (y : OfKind k). remaining (d - 1) (pushed k y s) us) w.shows;
+        few = stepped k x s more room;
+        less = less_left k x s more;
+      }
+    where
+      by_tokens : (ts : Tokens) → kind_at (left_of s) ts ≡ got k 0 rest → read limits (part_at limits (d - 1)) (piece_rule k) ts ≡ got w.value h us → remaining (d - 1) s ts ≡ remaining (d - 1) (pushed k (piece_tree k w.value) s) us
+      by_tokens [] begins reads = absurd cc
+      by_tokens (t ∷ ts) begins reads = goes (d - 1) s k t ts rest begins w.value h us more reads
 
-  one-ruleset : (f m j : ℕ) (t : Token) (ts us : Tokens) (x : Ruleset) (h : ℕ) → starts statement_heads (t ∷ ts) ≡ false → starts ruleset_heads (t ∷ ts) ≡ true → IsShownDeep ruleset_of x h us (rule_read d ruleset_rule (t ∷ ts))
-      → levelless (added s.statements s.rulesets) (read_pieces limits d (suc f) m (suc j) (t ∷ ts)) ≡ levelless (added s.statements (s.rulesets ++ x ∷ [])) (read_pieces limits d f m j us)
-  one-ruleset f m j t ts us x h other some r =
-      ap (levelless (added s.statements s.rulesets)) (ruleset-first f m (suc j) t ts other some ∙ more-goes (read_ruleset limits d) (read_pieces limits d f m j) (t ∷ ts) us (inr x) h (ruleset-is (t ∷ ts) us x h r))
-      ∙ ruleset-added x h (read_pieces limits d f m j us)
-
-  pub ruleset-goes : (ts us : Tokens) (x : Ruleset) (h : ℕ) → length s.rulesets < 64 → starts statement_heads ts ≡ false → starts ruleset_heads ts ≡ true → IsShownDeep ruleset_of x h us (rule_read d ruleset_rule ts)
-      → remaining d s ts ≡ remaining d (with_ruleset s x) us
-  unfolding remaining
-  ruleset-goes [] us x h room other some r = absurd cc
-  ruleset-goes (t ∷ ts) us x h room other some r =
-      let longer : length (s.rulesets ++ x ∷ []) ≡ length s.rulesets + 1 = omega (arith, length-append s.rulesets (x ∷ [])) in
-      let here : 64 - length s.rulesets ≡ suc (63 - length s.rulesets) = omega arith in
-      let fuel : (256 - length s.statements) + suc (63 - length s.rulesets) ≡ suc ((256 - length s.statements) + (63 - length s.rulesets)) = omega arith in
-      let there : 64 - length (s.rulesets ++ x ∷ []) ≡ 63 - length s.rulesets = omega arith in
-      rw (here, there, fuel) (one-ruleset ((256 - length s.statements) + (63 - length s.rulesets)) (256 - length s.statements) (63 - length s.rulesets) t ts us x h other some r)
-
-  ruleset-halted : (f m j : ℕ) (t : Token) (ts us : Tokens) (kind : Kind) → starts statement_heads (t ∷ ts) ≡ false → starts ruleset_heads (t ∷ ts) ≡ true → rule_read d ruleset_rule (t ∷ ts) ≡ halt kind us → read_pieces limits d (suc f) m (suc j) (t ∷ ts) ≡ halt kind us
+  pub piece-halts : (kind : Kind) (us : Tokens) → rule_read d (piece_rule k) ts ≡ halt kind us → remaining (d - 1) s ts ≡ halt kind us
   unfolding rule_read
-  ruleset-halted f m j t ts us kind other some r =
-      ruleset-first f m (suc j) t ts other some
-      ∙ more-halts (read_ruleset limits d) (read_pieces limits d f m j) (t ∷ ts) us kind (ap (mapped (λ v. inr (ruleset_of v))) (sym (read_plain-is limits (part_at limits d) ruleset_rule (t ∷ ts)) ∙ r))
+  piece-halts kind us e = by_tokens ts begins (sym (below-read limits d (piece_rule k) ts some) ∙ e)
+    where
+      by_tokens : (ts : Tokens) → kind_at (left_of s) ts ≡ got k 0 rest → read limits (part_at limits (d - 1)) (piece_rule k) ts ≡ halt kind us → remaining (d - 1) s ts ≡ halt kind us
+      by_tokens [] begins reads = absurd cc
+      by_tokens (t ∷ ts) begins reads = halts (d - 1) s k t ts rest begins kind us reads
 
-  pub ruleset-halts : (ts us : Tokens) (kind : Kind) → length s.rulesets < 64 → starts statement_heads ts ≡ false → starts ruleset_heads ts ≡ true → rule_read d ruleset_rule ts ≡ halt kind us → remaining d s ts ≡ halt kind us
-  unfolding remaining
-  ruleset-halts [] us kind room other some r = absurd cc
-  ruleset-halts (t ∷ ts) us kind room other some r =
-      let here : 64 - length s.rulesets ≡ suc (63 - length s.rulesets) = omega arith in
-      let fuel : (256 - length s.statements) + suc (63 - length s.rulesets) ≡ suc ((256 - length s.statements) + (63 - length s.rulesets)) = omega arith in
-      rw (here, fuel) (ap (levelless (added s.statements s.rulesets)) (ruleset-halted ((256 - length s.statements) + (63 - length s.rulesets)) (256 - length s.statements) (63 - length s.rulesets) t ts us kind other some r))
+-- no piece begins there, or one that is one too many
+pub no-piece : (d : ℕ) (s : Script) (ts us : Tokens) (kind : Kind) → 0 < length ts → kind_at (left_of s) ts ≡ halt kind us → remaining d s ts ≡ halt kind us
+unfolding remaining
+no-piece d s [] us kind some e = absurd (omega arith)
+no-piece d s (t ∷ ts) us kind some e = ap (λ (x : Read PieceKind). levelless (added s) (x >>= λ j. mapped cons (both (read_piece limits d j.value) (read_pieces limits d (total (left_of s)) (fewer j.value (left_of s))) (t ∷ ts)))) e
 
-  full-of-rulesets : (m : ℕ) (t : Token) (ts : Tokens) → starts statement_heads (t ∷ ts) ≡ false → starts ruleset_heads (t ∷ ts) ≡ true → read_pieces limits d m m 0 (t ∷ ts) ≡ halt (TooMany rulesets) (t ∷ ts)
-  full-of-rulesets zero t ts other some =
-      choice-second statement_heads (halt (TooMany statements)) (choice ruleset_heads (halt (TooMany rulesets)) (halt Expected)) (t ∷ ts) other
-      ∙ choice-first ruleset_heads (halt (TooMany rulesets)) (halt Expected) (t ∷ ts) some
-  full-of-rulesets (suc m) t ts other some = ruleset-first m (suc m) 0 t ts other some
+-- ---- the beginning and the end
 
-  pub ruleset-refused : (ts : Tokens) → length s.rulesets ≡ 64 → starts statement_heads ts ≡ false → starts ruleset_heads ts ≡ true → remaining d s ts ≡ halt (TooMany rulesets) ts
-  unfolding remaining
-  ruleset-refused [] full other some = absurd cc
-  ruleset-refused (t ∷ ts) full other some =
-      let none : 64 - length s.rulesets ≡ 0 = omega arith in
-      let fuel : (256 - length s.statements) + 0 ≡ 256 - length s.statements = omega arith in
-      rw (none, fuel) (ap (levelless (added s.statements s.rulesets)) (full-of-rulesets (256 - length s.statements) t ts other some))
+pub at-end : (d : ℕ) (s : Script) (ts : Tokens) → length ts ≡ 0 → remaining d s ts ≡ got s 0 ts
+unfolding remaining
+at-end d s [] e =
+    let a = append-nil s.statements in
+    let b = append-nil s.rulesets in
+    let c = append-nil s.operators in
+    rw (a, b, c) refl
+at-end d s (t ∷ ts) e = absurd (omega arith)
 
-  -- ---- neither
+abbrev nothing : Script
+nothing = record { statements = []; rulesets = []; operators = [] }
 
-  neither : (f m j : ℕ) (t : Token) (ts : Tokens) → starts statement_heads (t ∷ ts) ≡ false → starts ruleset_heads (t ∷ ts) ≡ false → read_pieces limits d f m j (t ∷ ts) ≡ halt Expected (t ∷ ts)
-  neither zero m j t ts other other' =
-      choice-second statement_heads (halt (TooMany statements)) (choice ruleset_heads (halt (TooMany rulesets)) (halt Expected)) (t ∷ ts) other
-      ∙ choice-second ruleset_heads (halt (TooMany rulesets)) (halt Expected) (t ∷ ts) other'
-  neither (suc f) m j t ts other other' =
-      choice-second statement_heads (statement_more f m j) (choice ruleset_heads (ruleset_more f m j) (halt Expected)) (t ∷ ts) other
-      ∙ choice-second ruleset_heads (ruleset_more f m j) (halt Expected) (t ∷ ts) other'
+none_before : (k : PieceKind) → left_of nothing k ≡ limits_of limits k
+none_before a_statement = refl
+none_before a_ruleset = refl
+none_before an_operator = refl
 
-  pub no-piece : (ts : Tokens) → 0 < length ts → starts statement_heads ts ≡ false → starts ruleset_heads ts ≡ false → remaining d s ts ≡ halt Expected ts
-  unfolding remaining
-  no-piece [] some other other' = absurd (omega arith)
-  no-piece (t ∷ ts) some other other' = ap (levelless (added s.statements s.rulesets)) (neither ((256 - length s.statements) + (64 - length s.rulesets)) (256 - length s.statements) (64 - length s.rulesets) t ts other other')
-
-  pub at-end : (ts : Tokens) → length ts ≡ 0 → remaining d s ts ≡ got s 0 ts
-  unfolding remaining
-  at-end [] none =
-      let a : s.statements ++ [] ≡ s.statements = append-nil s.statements in
-      let b : s.rulesets ++ [] ≡ s.rulesets = append-nil s.rulesets in
-      rw (a, b) refl
-  at-end (t ∷ ts) none = absurd (omega arith)
-
--- at the beginning
-from-nothing : (x : Read (List Piece)) → levelless (added [] []) x ≡ levelless (λ v. v) (mapped script_of x)
-from-nothing (Ok b) = refl
-from-nothing (Err e) = refl
-
-pub at-beginning : (d : ℕ) (ts : Tokens) → remaining d (record { statements = []; rulesets = [] }) ts ≡ script_read d ts
+pub at-beginning : (d : ℕ) (ts : Tokens) → remaining d nothing ts ≡ script_read d ts
 unfolding remaining script_read
-at-beginning d ts = from-nothing (read_pieces limits d 320 256 64 ts)
+at-beginning d ts =
+    let left = same_left (left_of nothing) (limits_of limits) none_before in
+    ap (λ (l : Left). levelless (added nothing) (read_pieces limits d (suc (total l)) l ts)) left ∙ by_pieces (read_pieces limits d (suc (total (limits_of limits))) (limits_of limits) ts)
+  where
+    by_pieces : (x : Read (List Piece)) → levelless (added nothing) x ≡ levelless (λ v. v) (mapped script_of x)
+    by_pieces (Ok ps) = refl
+    by_pieces (Err e) = refl

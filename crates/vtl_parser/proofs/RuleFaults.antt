@@ -10,7 +10,7 @@ use Rattle.vtl_grammar.specs.Rulesets.{fault_of, datapoint_rule_of}
 use Rattle.vtl_grammar.specs.Reading.{got}
 use Rattle.vtl_cursor.specs.declared.cursor.Named.{Named}
 use Rattle.vtl_cursor.specs.declared.cursor.Whole.{Whole}
-use Rattle.vtl_parts.specs.Faults.{code_of, level_of, fault_in}
+use Rattle.vtl_cursor.specs.Faults.{code_of, level_of, fault_in}
 
 -- what says what is wrong is put together of its parts
 same_fault : (c : Option (Place × At Text)) (n : Option (Place × Of signed_integer)) (p : Place) → fault_in (option_map code_of c) (option_map level_of n) p ≡ fault_of c n p

@@ -13,10 +13,11 @@ use Rattle.vtl_syntax.specs.declared.ruleset.HierarchyRule.{HierarchyRule}
 use Rattle.vtl_syntax.specs.declared.ruleset.HierarchyRules.{HierarchyRules}
 use Rattle.vtl_grammar.specs.Marks.{Mark, key, sign, Tokens, of_mark}
 use Rattle.vtl_grammar.specs.Rules.{Rule, mark, ◌▸◌, either, Of, Text, word}
-use Rattle.vtl_grammar.specs.Rulesets.{semicolon, datapoint_rule, datapoint_rule_of, datapoint_rules, datapoint_rules_of, hierarchy_rule, hierarchy_rule_of, hierarchy_rules, hierarchy_rules_of, rules_of, ruleset_rule, ruleset_of}
+use Rattle.vtl_grammar.specs.Rulesets.{semicolon, datapoint_rule, datapoint_rule_of, datapoint_rules, datapoint_rules_of, hierarchy_rule, hierarchy_rule_of, hierarchy_rules, hierarchy_rules_of, ruleset_of}
+use Rattle.vtl_grammar.specs.Scripts.{definition}
 use Rattle.vtl_grammar.specs.Reading.{Kind, Read, Reader, halt, got, ◌>>=◌, mapped, starts, firsts, read_mark}
 use Rattle.vtl_parser.specs.RuleParts.{datapoint_parts, datapoint_parts_of, hierarchy_parts, hierarchy_parts_of, rule_read}
-use Rattle.vtl_parser.specs.Views.{IsShownDeep}
+use Rattle.vtl_cursor.specs.Views.{IsShownDeep}
 
 -- the same value seen in another way
 pub seen_as : {V X Y : Type 0} (of : V → X) (view : V → Y) (f : X → Y) (x : X) (h : ℕ) (rest : Tokens) (r : Read V) → ((v : V) → view v ≡ f (of v)) → IsShownDeep of x h rest r → IsShownDeep view (f x) h rest r
@@ -27,7 +28,7 @@ module _ (d : ℕ) where
   unfolding rule_read
   mark_is m ts r e = e
 
-  -- ---- one behind the other
+  -- ---- one after the other
 
   module _ (g k : Rule) (ts us : Tokens) where
     pub first_halts : (kind : Kind) → rule_read d g ts ≡ halt kind us → rule_read d (g ▸ k) ts ≡ halt kind us
@@ -106,11 +107,11 @@ module _ (d : ℕ) (p : Place) (ts us : Tokens) where
   pub hierarchy_is : (x : Text × (Option (List Variable) × (Text × List HierarchyRule))) (h : ℕ) → IsShownDeep (hierarchy_parts_of hierarchy_rule hierarchy_rule_of) x h us (rule_read d (hierarchy_parts hierarchy_rule) ts) → IsShownDeep (hierarchy_rules_of p) (hierarchy_rules_from p x) h us (rule_read d hierarchy_rules ts)
   hierarchy_is x h s = seen_as (hierarchy_parts_of hierarchy_rule hierarchy_rule_of) (hierarchy_rules_of p) (hierarchy_rules_from p) x h us (rule_read d hierarchy_rules ts) (λ v. refl) s
 
-  pub datapoint_kind_is : (x : DatapointRules) (h : ℕ) → starts (of_mark (key words.Datapoint) ∷ []) ts ≡ true → IsShownDeep (datapoint_rules_of p) x h us (rule_read d datapoint_rules ts) → IsShownDeep (rules_of p) (kinds.Datapoint x) h us (rule_read d (either datapoint_rules hierarchy_rules) ts)
-  datapoint_kind_is x h some s = left_is d datapoint_rules hierarchy_rules ts us (datapoint_rules_of p) (rules_of p) datapoint_kind x h (λ v. refl) some s
+  pub datapoint_kind_is : (x : DatapointRules) (h : ℕ) → starts (of_mark (key words.Datapoint) ∷ []) ts ≡ true → IsShownDeep (datapoint_rules_of p) x h us (rule_read d datapoint_rules ts) → IsShownDeep (ruleset_of p) (kinds.Datapoint x) h us (rule_read d (either datapoint_rules hierarchy_rules) ts)
+  datapoint_kind_is x h some s = left_is d datapoint_rules hierarchy_rules ts us (datapoint_rules_of p) (ruleset_of p) datapoint_kind x h (λ v. refl) some s
 
-  pub hierarchy_kind_is : (x : HierarchyRules) (h : ℕ) → starts (of_mark (key words.Datapoint) ∷ []) ts ≡ false → IsShownDeep (hierarchy_rules_of p) x h us (rule_read d hierarchy_rules ts) → IsShownDeep (rules_of p) (kinds.Hierarchy x) h us (rule_read d (either datapoint_rules hierarchy_rules) ts)
-  hierarchy_kind_is x h none s = right_is d datapoint_rules hierarchy_rules ts us (hierarchy_rules_of p) (rules_of p) hierarchy_kind x h (λ v. refl) none s
+  pub hierarchy_kind_is : (x : HierarchyRules) (h : ℕ) → starts (of_mark (key words.Datapoint) ∷ []) ts ≡ false → IsShownDeep (hierarchy_rules_of p) x h us (rule_read d hierarchy_rules ts) → IsShownDeep (ruleset_of p) (kinds.Hierarchy x) h us (rule_read d (either datapoint_rules hierarchy_rules) ts)
+  hierarchy_kind_is x h none s = right_is d datapoint_rules hierarchy_rules ts us (hierarchy_rules_of p) (ruleset_of p) hierarchy_kind x h (λ v. refl) none s
 
 module _ (d : ℕ) (kind : Kind) (ts us : Tokens) where
   pub datapoint_halts : rule_read d (datapoint_parts datapoint_rule) ts ≡ halt kind us → rule_read d datapoint_rules ts ≡ halt kind us
@@ -125,16 +126,19 @@ module _ (d : ℕ) (kind : Kind) (ts us : Tokens) where
   pub hierarchy_kind_halts : starts (of_mark (key words.Datapoint) ∷ []) ts ≡ false → rule_read d hierarchy_rules ts ≡ halt kind us → rule_read d (either datapoint_rules hierarchy_rules) ts ≡ halt kind us
   hierarchy_kind_halts none e = right_halts d datapoint_rules hierarchy_rules ts us kind none e
 
-  pub define_halts : read_mark (key words.Define) ts ≡ halt kind us → rule_read d ruleset_rule ts ≡ halt kind us
-  define_halts e = first_halts d (word words.Define) (either datapoint_rules hierarchy_rules ▸ semicolon) ts us kind (mark_is d (key words.Define) ts (halt kind us) e)
+-- ---- definitions
 
-module _ (d : ℕ) (ts us : Tokens) (p : Place) (begins : read_mark (key words.Define) ts ≡ got p 0 us) where
-  pub kind_halts : (kind : Kind) (vs : Tokens) → rule_read d (either datapoint_rules hierarchy_rules) us ≡ halt kind vs → rule_read d ruleset_rule ts ≡ halt kind vs
-  kind_halts kind vs e = then_halts d (word words.Define) (either datapoint_rules hierarchy_rules ▸ semicolon) ts us p 0 (mark_is d (key words.Define) ts (got p 0 us) begins) kind vs (first_halts d (either datapoint_rules hierarchy_rules) semicolon us vs kind e)
+module _ (d : ℕ) (g : Rule) where
+  pub define_halts : (kind : Kind) (ts us : Tokens) → read_mark (key words.Define) ts ≡ halt kind us → rule_read d (definition g) ts ≡ halt kind us
+  define_halts kind ts us e = first_halts d (word words.Define) (g ▸ semicolon) ts us kind (mark_is d (key words.Define) ts (halt kind us) e)
 
-  module _ (x : Ruleset) (h : ℕ) (vs ws : Tokens) (s : IsShownDeep (rules_of p) x h vs (rule_read d (either datapoint_rules hierarchy_rules) us)) where
-    pub semicolon_halts : (kind : Kind) → read_mark (sign signs.Semicolon) vs ≡ halt kind ws → rule_read d ruleset_rule ts ≡ halt kind ws
-    semicolon_halts kind e = then_halts d (word words.Define) (either datapoint_rules hierarchy_rules ▸ semicolon) ts us p 0 (mark_is d (key words.Define) ts (got p 0 us) begins) kind ws (then_halts d (either datapoint_rules hierarchy_rules) semicolon us vs s.value h s.reads kind ws (mark_is d (sign signs.Semicolon) vs (halt kind ws) e))
+  module _ (ts us : Tokens) (p : Place) (begins : read_mark (key words.Define) ts ≡ got p 0 us) where
+    pub kind_halts : (kind : Kind) (vs : Tokens) → rule_read d g us ≡ halt kind vs → rule_read d (definition g) ts ≡ halt kind vs
+    kind_halts kind vs e = then_halts d (word words.Define) (g ▸ semicolon) ts us p 0 (mark_is d (key words.Define) ts (got p 0 us) begins) kind vs (first_halts d g semicolon us vs kind e)
 
-    pub ruleset_is : (q : Place) → read_mark (sign signs.Semicolon) vs ≡ got q 0 ws → IsShownDeep ruleset_of x h ws (rule_read d ruleset_rule ts)
-    ruleset_is q e = between_is d (word words.Define) (either datapoint_rules hierarchy_rules) semicolon rules_of p q x h ts us vs ws (mark_is d (key words.Define) ts (got p 0 us) begins) s (mark_is d (sign signs.Semicolon) vs (got q 0 ws) e)
+    module _ {X : Type 0} (of : Place → Of g → X) (x : X) (h : ℕ) (vs ws : Tokens) (s : IsShownDeep (of p) x h vs (rule_read d g us)) where
+      pub semicolon_halts : (kind : Kind) → read_mark (sign signs.Semicolon) vs ≡ halt kind ws → rule_read d (definition g) ts ≡ halt kind ws
+      semicolon_halts kind e = then_halts d (word words.Define) (g ▸ semicolon) ts us p 0 (mark_is d (key words.Define) ts (got p 0 us) begins) kind ws (then_halts d g semicolon us vs s.value h s.reads kind ws (mark_is d (sign signs.Semicolon) vs (halt kind ws) e))
+
+      pub definition_is : (q : Place) → read_mark (sign signs.Semicolon) vs ≡ got q 0 ws → IsShownDeep (λ (v : Of (definition g)). of v.0 v.1.0) x h ws (rule_read d (definition g) ts)
+      definition_is q e = between_is d (word words.Define) g semicolon of p q x h ts us vs ws (mark_is d (key words.Define) ts (got p 0 us) begins) s (mark_is d (sign signs.Semicolon) vs (got q 0 ws) e)

@@ -1,5 +1,5 @@
 -- The forms of expressions as the parser tells them apart, and what its functions read of one.
-use Rattle.std.specs.Prelude.{ℕ, [], ◌∷◌, Option, Some, None, option_map, suc}
+use Rattle.std.specs.Prelude.{◌≡◌, ℕ, List, [], ◌∷◌, Option, Some, None, option_map, suc}
 use Rattle.vtl_values.specs.declared.place.Place.{Place}
 use Rattle.vtl_syntax.specs.declared.expr.Expr.{Expr}
 use Rattle.vtl_syntax.specs.declared.expr.Expr.TheVariants as tree
@@ -8,23 +8,22 @@ use Rattle.vtl_syntax.specs.declared.words.AggregateFunction.TheVariants as aggr
 use Rattle.vtl_syntax.specs.declared.words.WindowFunction.{WindowFunction}
 use Rattle.vtl_syntax.specs.declared.words.WindowFunction.TheVariants as window_word
 use Rattle.vtl_grammar.specs.Marks.{Tokens, mark_in}
-use Rattle.vtl_grammar.specs.Rules.{Counts, Part, OfPart, Rule, name, integer, text, ◌▸◌, option, prefixed, component, Of, word, sig, expr, comma, open_paren, close_paren, commas, listed}
+use Rattle.vtl_grammar.specs.Rules.{Counts, Part, OfPart, Rule, name, integer, text, ◌▸◌, option, prefixed, component, Of, Text, word, sig, expr, comma, open_paren, close_paren, commas, listed}
 use Rattle.vtl_tokens.specs.declared.keyword.Keyword.TheVariants as words
 use Rattle.vtl_tokens.specs.declared.sign.Sign.TheVariants as signs
 use Rattle.vtl_grammar.specs.Clauses.{literal, literal_of, signed_integer, signed_of, clause_rule, clause_of}
-use Rattle.vtl_grammar.specs.Calls.{Form, unary, replace, substr, sets, join, aggregate, count, rank, check, over, over_of, rows_output_rule, rows_output_of, mode_rule, mode_of, hierarchy_input_rule, hierarchy_input_of, hierarchy_output_rule, hierarchy_output_of, check_input_rule, check_input_of, exists_rows_rule, exists_rows_of}
-use Rattle.vtl_grammar.specs.Forms.{Tail, conditional, bracket, signed_form, leaf_in, compared, member_of_set, summed, multiplied}
-use Rattle.vtl_syntax.specs.declared.words.OrSign.{OrSign}
+use Rattle.vtl_grammar.specs.Calls.{Form, unary, replace, substr, sets, join, aggregate, count, rank, check, over, over_of, rows_output_rule, rows_output_of, mode_rule, mode_of, hierarchy_input_rule, hierarchy_input_of, hierarchy_output_rule, hierarchy_output_of, check_input_rule, check_input_of, exists_rows_rule, exists_rows_of, fill_span_rule, fill_span_of}
+use Rattle.vtl_grammar.specs.Forms.{Tail, conditional, bracket, signed_form, leaf_in, leaf_precedence, member_of_set, call_of_name}
 use Rattle.vtl_grammar.specs.Reading.{Reader, mapped, form_at, tail_at}
 use Rattle.vtl_cursor.specs.Plain.{read_plain}
-use Rattle.vtl_parser.specs.declared.form.Head.{Head}
-use Rattle.vtl_parser.specs.declared.form.Head.TheVariants as head
+use Rattle.vtl_parser.specs.declared.form.PrefixForm.{PrefixForm}
+use Rattle.vtl_parser.specs.declared.form.PrefixForm.TheVariants as head
 use Rattle.vtl_parser.specs.declared.form.OneOperand.{OneOperand}
 use Rattle.vtl_parser.specs.declared.form.OneOperand.TheVariants as one
 use Rattle.vtl_parser.specs.declared.form.TwoOperands.{TwoOperands}
 use Rattle.vtl_parser.specs.declared.form.TwoOperands.TheVariants as two
-use Rattle.vtl_parser.specs.declared.form.Link.{Link}
-use Rattle.vtl_parser.specs.declared.form.Link.TheVariants as link
+use Rattle.vtl_parser.specs.declared.form.SuffixForm.{SuffixForm}
+use Rattle.vtl_parser.specs.declared.form.SuffixForm.TheVariants as link
 use Rattle.vtl_parser.specs.declared.form.Infix.{Infix}
 use Rattle.vtl_parser.specs.declared.form.Infix.TheVariants as infixes
 
@@ -33,10 +32,10 @@ use Rattle.vtl_parser.specs.declared.form.Infix.TheVariants as infixes
 abbrev pub placed : {A : Type 0} → Place → Option A → Option (A × Place)
 placed p x = option_map (λ v. (v, p)) x
 
--- a name or a literal
-abbrev pub leaf_there : Tokens → Option Expr
+-- a name or a literal, and its precedence
+abbrev pub leaf_there : Tokens → Option (Expr × ℕ)
 leaf_there [] = None
-leaf_there (t ∷ ts) = leaf_in t.what t.place
+leaf_there (t ∷ ts) = option_map (λ e. (e, leaf_precedence t.what)) (leaf_in t.what t.place)
 
 -- a form that begins with the first token, and that token's place
 abbrev pub form_there : Tokens → Option (Form × Place)
@@ -48,15 +47,15 @@ abbrev pub tail_there : Tokens → Option (Tail × Place)
 tail_there [] = None
 tail_there (t ∷ ts) = placed t.place (tail_at (mark_in t.what))
 
--- what comes behind the word of a form
+-- what comes after the word of a form
 abbrev pub read_form : Counts → ((q : Part) → Reader (OfPart q)) → Form → Place → Reader Expr
 read_form L inner form p ts = mapped (λ v. form.tree v p) (read_plain L inner form.rule ts)
 
--- what comes behind the sign of a tail
+-- what comes after the sign of a tail
 abbrev pub read_tail : Counts → ((q : Part) → Reader (OfPart q)) → Tail → Expr → Place → Reader Expr
 read_tail L inner tail l p ts = mapped (λ v. tail.tree l v p) (read_plain L inner tail.rule ts)
 
--- ---- calls of one operand, with no expression behind it
+-- ---- calls of one operand, with no expression after it
 
 abbrev pub one_rest : OneOperand → Rule
 one_rest (one.Unary f) = close_paren
@@ -65,6 +64,9 @@ one_rest one.Between = comma ▸ literal ▸ comma ▸ literal ▸ close_paren
 one_rest one.MatchCharacters = comma ▸ text ▸ close_paren
 one_rest (one.Window f) = over ▸ close_paren
 one_rest (one.Offset f) = comma ▸ integer ▸ over ▸ close_paren
+one_rest (one.Time f) = close_paren
+one_rest one.Timeshift = comma ▸ signed_integer ▸ close_paren
+one_rest one.FillTimeSeries = option (comma ▸ fill_span_rule) close_paren
 one_rest one.CheckDatapoint = comma ▸ name ▸ option rows_output_rule close_paren
 one_rest one.Hierarchy = comma ▸ name ▸ prefixed component (option mode_rule (option hierarchy_input_rule (option hierarchy_output_rule close_paren)))
 one_rest one.CheckHierarchy = comma ▸ name ▸ option (word words.Rule ▸ name) (option mode_rule (option check_input_rule (option rows_output_rule close_paren)))
@@ -76,14 +78,17 @@ one_tree one.Between e v p = tree.Between e (literal_of v.1.0) (literal_of v.1.1
 one_tree one.MatchCharacters e v p = tree.MatchCharacters e v.1.0.value p
 one_tree (one.Window f) e v p = tree.Window f e (over_of v.0) p
 one_tree (one.Offset f) e v p = tree.Offset f e v.1.0.value (over_of v.1.1.0) p
+one_tree (one.Time f) e v p = tree.Time f e p
+one_tree one.Timeshift e v p = tree.Timeshift e (signed_of v.1.0) p
+one_tree one.FillTimeSeries e v p = tree.FillTimeSeries e (option_map (λ w. fill_span_of w.1) v.0) p
 one_tree one.CheckDatapoint e v p = tree.CheckDatapoint e v.1.0.value v.1.0.place (option_map rows_output_of v.1.1.0) p
 one_tree one.Hierarchy e v p = tree.Hierarchy e v.1.0.value v.1.0.place (option_map (λ w. w.value) v.1.1.0) (option_map mode_of v.1.1.1.0) (option_map hierarchy_input_of v.1.1.1.1.0) (option_map hierarchy_output_of v.1.1.1.1.1.0) p
 one_tree one.CheckHierarchy e v p = tree.CheckHierarchy e v.1.0.value v.1.0.place (option_map (λ w. w.1.value) v.1.1.0) (option_map mode_of v.1.1.1.0) (option_map check_input_of v.1.1.1.1.0) (option_map rows_output_of v.1.1.1.1.1.0) p
 
 abbrev pub one_form : OneOperand → Form
-one_form c = record { level = 7; rule = open_paren ▸ expr 0 ▸ one_rest c; tree = λ v p. one_tree c v.1.0 v.1.1 p }
+one_form c = record { precedence = 7; rule = open_paren ▸ expr 0 ▸ one_rest c; tree = λ v p. one_tree c v.1.0 v.1.1 p }
 
--- ---- calls of two operands, with no expression behind them
+-- ---- calls of two operands, with no expression after them
 
 abbrev pub two_rest : TwoOperands → Rule
 two_rest (two.Binary f) = close_paren
@@ -96,7 +101,7 @@ two_tree (two.Difference f) l r v p = tree.Difference f l r p
 two_tree two.ExistsIn l r v p = tree.ExistsIn l r (option_map (λ w. exists_rows_of w.1) v.0) p
 
 abbrev pub two_form : TwoOperands → Form
-two_form c = record { level = 7; rule = open_paren ▸ expr 0 ▸ comma ▸ expr 0 ▸ two_rest c; tree = λ v p. two_tree c v.1.0 v.1.1.1.0 v.1.1.1.1 p }
+two_form c = record { precedence = 7; rule = open_paren ▸ expr 0 ▸ comma ▸ expr 0 ▸ two_rest c; tree = λ v p. two_tree c v.1.0 v.1.1.1.0 v.1.1.1.1 p }
 
 -- ---- forms
 
@@ -109,30 +114,30 @@ window_of aggregate_word.Min = window_word.Min
 window_of aggregate_word.Max = window_word.Max
 window_of aggregate_word.Median = window_word.Median
 
-abbrev pub head_form : Head → Form
-head_form head.If = conditional
-head_form head.Bracket = bracket
-head_form (head.Signed s) = signed_form s
-head_form (head.One c) = one_form c
-head_form (head.Two c) = two_form c
-head_form head.Substr = substr
-head_form head.Replace = replace
-head_form (head.Sets f) = sets f
-head_form (head.Join f) = join f
-head_form (head.Aggregate f) = aggregate f (window_of f)
-head_form head.Count = count
-head_form head.Rank = rank
-head_form head.Check = check
+abbrev pub prefix_form : PrefixForm → Form
+prefix_form head.If = conditional
+prefix_form head.Bracket = bracket
+prefix_form (head.Signed s) = signed_form s
+prefix_form (head.One c) = one_form c
+prefix_form (head.Two c) = two_form c
+prefix_form head.Substr = substr
+prefix_form head.Replace = replace
+prefix_form (head.Sets f) = sets f
+prefix_form (head.Join f) = join f
+prefix_form (head.Aggregate f) = aggregate f (window_of f)
+prefix_form head.Count = count
+prefix_form head.Rank = rank
+prefix_form head.Check = check
 
 -- ---- tails
 
--- the level of a sign between operands
-abbrev pub infix_level : Infix → ℕ
-infix_level (infixes.Or s) = 1
-infix_level infixes.And = 2
-infix_level (infixes.Compare s) = 3
-infix_level (infixes.Sum s) = 4
-infix_level (infixes.Product s) = 5
+-- the precedence of a sign between operands
+abbrev pub infix_precedence : Infix → ℕ
+infix_precedence (infixes.Or s) = 1
+infix_precedence infixes.And = 2
+infix_precedence (infixes.Compare s) = 3
+infix_precedence (infixes.Sum s) = 4
+infix_precedence (infixes.Product s) = 5
 
 abbrev pub infix_tree : Infix → Expr → Expr → Place → Expr
 infix_tree (infixes.Or s) l r p = tree.Or l s r p
@@ -141,8 +146,18 @@ infix_tree (infixes.Compare s) l r p = tree.Compare l s r p
 infix_tree (infixes.Sum s) l r p = tree.Sum l s r p
 infix_tree (infixes.Product s) l r p = tree.Product l s r p
 
-abbrev pub link_tail : Link → Tail
-link_tail (link.Infix s) = record { level = infix_level s; rule = expr (suc (infix_level s)); tree = λ l v p. infix_tree s l v p }
-link_tail (link.In s) = member_of_set s
-link_tail link.Member = record { level = 7; rule = name; tree = λ l v p. tree.Member l v.value p }
-link_tail link.Clause = record { level = 7; rule = clause_rule ▸ sig signs.RightBracket; tree = λ l v p. tree.Clause l (clause_of v.0) p }
+abbrev pub suffix_tail : SuffixForm → Tail
+suffix_tail (link.Infix s) = record { precedence = infix_precedence s; operand = infix_precedence s; rule = expr (suc (infix_precedence s)); tree = λ l v p. infix_tree s l v p }
+suffix_tail (link.In s) = member_of_set s
+suffix_tail link.Call = call_of_name
+suffix_tail link.Member = record { precedence = 7; operand = 7; rule = name; tree = λ l v p. tree.Member l v.value p }
+suffix_tail link.Clause = record { precedence = 7; operand = 7; rule = clause_rule ▸ sig signs.RightBracket; tree = λ l v p. tree.Clause l (clause_of v.0) p }
+
+-- the expression is a name
+abbrev pub IsName : Expr → Type 0
+IsName e = (n : Text) × (p : Place) × (e ≡ tree.Name n p)
+
+-- the arguments of a call, of which there may be none
+abbrev pub arguments_of : Option (Of (commas (expr 0))) → List Expr
+arguments_of None = []
+arguments_of (Some v) = listed (λ e. e) v

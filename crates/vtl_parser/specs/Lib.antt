@@ -4,3 +4,4 @@ pub mod Joins
 pub mod Scripts
 pub mod Parses
 pub mod RuleParts
+pub mod Nested

@@ -5,7 +5,7 @@ use Rattle.vtl_tokens.specs.declared.keyword.Keyword.TheVariants as words
 use Rattle.vtl_syntax.specs.declared.ruleset.Variable.{Variable}
 use Rattle.vtl_grammar.specs.Rules.{Rule, name, ◌▸◌, option, repeated, rules, Of, Text, word, open_paren, close_paren, commas, listed}
 use Rattle.vtl_grammar.specs.Rulesets.{semicolon, variable, variable_of}
-use Rattle.vtl_grammar.specs.Reading.{Reader, part_at}
+use Rattle.vtl_grammar.specs.Reading.{Reader, below}
 use Rattle.vtl_cursor.specs.Limits.{limits}
 use Rattle.vtl_cursor.specs.Plain.{read_plain}
 
@@ -23,7 +23,7 @@ variables_rule g = open_paren ▸ word words.Variable ▸ commas variable ▸ cl
 abbrev pub variables_of : {R : Type 0} (g : Rule) → (Of g → R) → Of (variables_rule g) → List Variable × List R
 variables_of g of v = (listed variable_of v.1.1.0, body_of g words.Datapoint of v.1.1.1.1)
 
--- "datapoint" "ruleset" name and what is behind it
+-- "datapoint" "ruleset" name and what comes after it
 abbrev pub datapoint_parts : Rule → Rule
 datapoint_parts g = word words.Datapoint ▸ word words.Ruleset ▸ name ▸ variables_rule g
 
@@ -37,14 +37,14 @@ component_rule g = word words.Rule ▸ name ▸ close_paren ▸ body_rule g word
 abbrev pub component_of : {R : Type 0} (g : Rule) → (Of g → R) → Of (component_rule g) → Text × List R
 component_of g of v = (v.1.0.value, body_of g words.Hierarchical of v.1.1.1)
 
--- "(" "variable" ["condition" var {"," var}] and what is behind it
+-- "(" "variable" ["condition" var {"," var}] and what comes after it
 abbrev pub conditions_rule : Rule → Rule
 conditions_rule g = open_paren ▸ word words.Variable ▸ option (word words.Condition ▸ commas variable) (component_rule g)
 
 abbrev pub conditions_of : {R : Type 0} (g : Rule) → (Of g → R) → Of (conditions_rule g) → Option (List Variable) × (Text × List R)
 conditions_of g of v = (option_map (λ w. listed variable_of w.1) v.1.1.0, component_of g of v.1.1.1)
 
--- "hierarchical" "ruleset" name and what is behind it
+-- "hierarchical" "ruleset" name and what comes after it
 abbrev pub hierarchy_parts : Rule → Rule
 hierarchy_parts g = word words.Hierarchical ▸ word words.Ruleset ▸ name ▸ conditions_rule g
 
@@ -55,4 +55,4 @@ hierarchy_parts_of g of v = (v.1.1.0.value, conditions_of g of v.1.1.1)
 
 -- by a rule, with so many levels at most
 unfoldable pub rule_read : ℕ → (g : Rule) → Reader (Of g)
-rule_read d g ts = read_plain limits (part_at limits d) g ts
+rule_read d g ts = read_plain limits (below limits d) g ts

@@ -1,4 +1,4 @@
-// What comes behind the operands of a call.
+// What comes after the operands of a call.
 ghost use Rattle.std.specs.Prelude.{option_map};
 ghost use Rattle.vtl_tokens.specs.declared.keyword.Keyword.TheVariants as words;
 ghost use Rattle.vtl_grammar.specs.Rules.{text, word, ◌▸◌};
@@ -6,34 +6,32 @@ ghost use Rattle.vtl_grammar.specs.Clauses.{signed_integer, signed_of};
 ghost use Rattle.vtl_grammar.specs.Reading.{maybe, firsts, no_part};
 ghost use Rattle.vtl_cursor.specs.Limits.{limits};
 ghost use Rattle.vtl_cursor.specs.Plain.{read_plain};
-ghost use Rattle.vtl_cursor.specs.Views.{Shows};
-ghost use Rattle.vtl_parser.specs.Forms.{one_rest, one_tree, two_rest, two_tree, link_tail, read_form, read_tail};
-ghost use Rattle.vtl_parser.specs.Views.{GivesDeep};
+ghost use Rattle.vtl_cursor.specs.Views.{GivesDeep, Shows};
+ghost use Rattle.vtl_parser.specs.Forms.{one_rest, one_tree, two_rest, two_tree, suffix_tail, read_form, read_tail};
 ghost use Rattle.vtl_grammar.specs.Calls.{rank};
-ghost use Rattle.vtl_parser.specs.declared.form.Link.TheVariants as links;
+ghost use Rattle.vtl_parser.specs.declared.form.SuffixForm.TheVariants as links;
 ghost use Rattle.vtl_parser.specs.declared.form.OneOperand.TheVariants as one;
 ghost use Rattle.vtl_parser.specs.declared.form.TwoOperands.TheVariants as two;
 
 use crate::form::{OneOperand, TwoOperands};
 use sqlite_items::Boxed;
 use std::alloc::Global;
-use vtl_cursor::{Cursor, Stop};
-use vtl_parts::commas;
-use vtl_parts::literals::literal;
-use vtl_parts::outputs::{
+use vtl_cursor::literals::{literal, signed_integer};
+use vtl_cursor::outputs::{
     check_input, component, component_before_input, digits, error_code, error_level, exists_rows,
-    hierarchy_input, hierarchy_output, mode, rows_output,
+    fill_span, hierarchy_input, hierarchy_output, mode, rows_output,
 };
-use vtl_parts::windows::over;
+use vtl_cursor::windows::over;
+use vtl_cursor::{Cursor, Stop, commas};
 use vtl_syntax::Expr;
 use vtl_syntax::words::{
-    BinaryFunction, DifferenceFunction, InSign, OffsetFunction, RoundFunction, UnaryFunction,
-    WindowFunction,
+    BinaryFunction, DifferenceFunction, InSign, OffsetFunction, RoundFunction, TimeFunction,
+    UnaryFunction, WindowFunction,
 };
 use vtl_tokens::Sign;
 use vtl_values::{Integer, Place, Value, Word};
 
-/// The rest of a call behind its one operand.
+/// The rest of a call after its one operand.
 pub fn one_operand_end(
     alloc: Global,
     cursor: &mut Cursor,
@@ -50,6 +48,9 @@ pub fn one_operand_end(
         OneOperand::MatchCharacters => match_characters(alloc, cursor, operand, place),
         OneOperand::Window(function) => window(alloc, cursor, function, operand, place),
         OneOperand::Offset(function) => offset(alloc, cursor, function, operand, place),
+        OneOperand::Time(function) => time(alloc, cursor, function, operand, place),
+        OneOperand::Timeshift => timeshift(alloc, cursor, operand, place),
+        OneOperand::FillTimeSeries => fill_time_series(alloc, cursor, operand, place),
         OneOperand::CheckDatapoint => check_datapoint(alloc, cursor, operand, place),
         OneOperand::Hierarchy => hierarchy(alloc, cursor, operand, place),
         OneOperand::CheckHierarchy => check_hierarchy(alloc, cursor, operand, place),
@@ -178,6 +179,61 @@ fn offset(
     Ok(Boxed::new(alloc, expr)?)
 }
 
+fn time(
+    alloc: Global,
+    cursor: &mut Cursor,
+    function: TimeFunction,
+    operand: Boxed<Expr>,
+    place: Place,
+) -> Result<Boxed<Expr>, Stop>
+    ensures { Shows (λ v. one_tree (one.Time function) operand v place) cursor.new.tokens.now result (read_plain limits no_part (one_rest (one.Time function)) cursor.old.tokens.now) }
+{
+    cursor.sign(Sign::RightParen)?;
+    let expr = Expr::Time {
+        function,
+        operand,
+        place,
+    };
+    Ok(Boxed::new(alloc, expr)?)
+}
+
+fn timeshift(
+    alloc: Global,
+    cursor: &mut Cursor,
+    operand: Boxed<Expr>,
+    place: Place,
+) -> Result<Boxed<Expr>, Stop>
+    ensures { Shows (λ v. one_tree one.Timeshift operand v place) cursor.new.tokens.now result (read_plain limits no_part (one_rest one.Timeshift) cursor.old.tokens.now) }
+{
+    cursor.sign(Sign::Comma)?;
+    let shift = signed_integer(cursor)?;
+    cursor.sign(Sign::RightParen)?;
+    let expr = Expr::Timeshift {
+        operand,
+        shift,
+        place,
+    };
+    Ok(Boxed::new(alloc, expr)?)
+}
+
+fn fill_time_series(
+    alloc: Global,
+    cursor: &mut Cursor,
+    operand: Boxed<Expr>,
+    place: Place,
+) -> Result<Boxed<Expr>, Stop>
+    ensures { Shows (λ v. one_tree one.FillTimeSeries operand v place) cursor.new.tokens.now result (read_plain limits no_part (one_rest one.FillTimeSeries) cursor.old.tokens.now) }
+{
+    let span = fill_span(cursor)?;
+    cursor.sign(Sign::RightParen)?;
+    let expr = Expr::FillTimeSeries {
+        operand,
+        span,
+        place,
+    };
+    Ok(Boxed::new(alloc, expr)?)
+}
+
 fn check_datapoint(
     alloc: Global,
     cursor: &mut Cursor,
@@ -256,7 +312,7 @@ fn check_hierarchy(
     Ok(Boxed::new(alloc, expr)?)
 }
 
-/// The rest of a call behind its two operands.
+/// The rest of a call after its two operands.
 pub fn two_operands_end(
     alloc: Global,
     cursor: &mut Cursor,
@@ -356,7 +412,7 @@ pub fn level(cursor: &mut Cursor) -> Result<Option<Integer>, Stop>
     }
 }
 
-/// What comes behind `rank`, which has no level inside it.
+/// What comes after `rank`, which has no level inside it.
 pub fn rank(alloc: Global, cursor: &mut Cursor, place: Place) -> Result<(Boxed<Expr>, u8), Stop>
     ensures { GivesDeep cursor.new.tokens.now result (read_form limits no_part rank place cursor.old.tokens.now) }
 {
@@ -366,7 +422,7 @@ pub fn rank(alloc: Global, cursor: &mut Cursor, place: Place) -> Result<(Boxed<E
     Ok((Boxed::new(alloc, Expr::Rank { over, place })?, 0))
 }
 
-/// What comes behind `in` or `not_in`, which has no level inside it.
+/// What comes after `in` or `not_in`, which has no level inside it.
 pub fn member_of_set(
     alloc: Global,
     cursor: &mut Cursor,
@@ -374,7 +430,7 @@ pub fn member_of_set(
     left: Boxed<Expr>,
     place: Place,
 ) -> Result<(Boxed<Expr>, u8), Stop>
-    ensures { GivesDeep cursor.new.tokens.now result (read_tail limits no_part (link_tail (links.In sign)) left place cursor.old.tokens.now) }
+    ensures { GivesDeep cursor.new.tokens.now result (read_tail limits no_part (suffix_tail (links.In sign)) left place cursor.old.tokens.now) }
 {
     cursor.sign(Sign::LeftBrace)?;
     let set = commas::<Value>(alloc, cursor)?;
@@ -388,14 +444,14 @@ pub fn member_of_set(
     Ok((Boxed::new(alloc, expr)?, 0))
 }
 
-/// The name behind `#`, which has no level inside it.
+/// The name after `#`, which has no level inside it.
 pub fn member(
     alloc: Global,
     cursor: &mut Cursor,
     operand: Boxed<Expr>,
     place: Place,
 ) -> Result<(Boxed<Expr>, u8), Stop>
-    ensures { GivesDeep cursor.new.tokens.now result (read_tail limits no_part (link_tail links.Member) operand place cursor.old.tokens.now) }
+    ensures { GivesDeep cursor.new.tokens.now result (read_tail limits no_part (suffix_tail links.Member) operand place cursor.old.tokens.now) }
 {
     let name = cursor.name()?;
     let expr = Expr::Member {

@@ -3,18 +3,18 @@ ghost use Rattle.std.specs.Prelude.{◌≡◌, option_map};
 ghost use Rattle.vtl_grammar.specs.Marks.{key, sign, mark_in};
 ghost use Rattle.vtl_grammar.specs.Forms.{form_of, tail_of};
 ghost use Rattle.vtl_grammar.specs.Reading.{form_at, tail_at};
-ghost use Rattle.vtl_parser.specs.Forms.{head_form, link_tail, window_of};
+ghost use Rattle.vtl_parser.specs.Forms.{prefix_form, suffix_tail, window_of};
 
 use vtl_syntax::words::{
     AggregateFunction, BinaryFunction, Comparison, DifferenceFunction, InSign, JoinFunction,
-    OffsetFunction, OrSign, Prefix, ProductSign, RoundFunction, SetFunction, SumSign,
+    OffsetFunction, OrSign, Prefix, ProductSign, RoundFunction, SetFunction, SumSign, TimeFunction,
     UnaryFunction, WindowFunction,
 };
 use vtl_tokens::{Keyword, Sign, TokenKind};
 
 /// What begins an expression and is no name and no literal.
 #[derive(Clone, Copy)]
-pub enum Head {
+pub enum PrefixForm {
     If,
     Bracket,
     Signed(Prefix),
@@ -39,6 +39,9 @@ pub enum OneOperand {
     MatchCharacters,
     Window(WindowFunction),
     Offset(OffsetFunction),
+    Time(TimeFunction),
+    Timeshift,
+    FillTimeSeries,
     CheckDatapoint,
     Hierarchy,
     CheckHierarchy,
@@ -52,11 +55,13 @@ pub enum TwoOperands {
     ExistsIn,
 }
 
-/// What goes on behind an expression.
+/// What goes on after an expression.
 #[derive(Clone, Copy)]
-pub enum Link {
+pub enum SuffixForm {
     Infix(Infix),
     In(InSign),
+    /// `(`
+    Call,
     /// `#`
     Member,
     /// `[`
@@ -88,166 +93,198 @@ pub fn window_of(function: AggregateFunction) -> WindowFunction
 }
 
 /// What begins with that token.
-pub fn head_of(kind: &TokenKind) -> Option<Head>
-    ensures { option_map head_form result ≡ form_at (mark_in kind.now) }
+pub fn prefix_form_of(kind: &TokenKind) -> Option<PrefixForm>
+    ensures { option_map prefix_form result ≡ form_at (mark_in kind.now) }
 {
     match kind {
-        TokenKind::Reserved(word) => word_head(*word),
-        TokenKind::Sign(mark) => sign_head(*mark),
+        TokenKind::Reserved(word) => prefix_form_of_word(*word),
+        TokenKind::Sign(mark) => prefix_form_of_sign(*mark),
         _ => None,
     }
 }
 
-fn sign_head(mark: Sign) -> Option<Head>
-    ensures { option_map head_form result ≡ form_of (sign mark) }
+fn prefix_form_of_sign(mark: Sign) -> Option<PrefixForm>
+    ensures { option_map prefix_form result ≡ form_of (sign mark) }
 {
     match mark {
-        Sign::LeftParen => Some(Head::Bracket),
-        Sign::Plus => Some(Head::Signed(Prefix::Plus)),
-        Sign::Minus => Some(Head::Signed(Prefix::Minus)),
+        Sign::LeftParen => Some(PrefixForm::Bracket),
+        Sign::Plus => Some(PrefixForm::Signed(Prefix::Plus)),
+        Sign::Minus => Some(PrefixForm::Signed(Prefix::Minus)),
         _ => None,
     }
 }
 
-fn word_head(word: Keyword) -> Option<Head>
-    ensures { option_map head_form result ≡ form_of (key word) }
+fn prefix_form_of_word(word: Keyword) -> Option<PrefixForm>
+    ensures { option_map prefix_form result ≡ form_of (key word) }
 {
     match word {
-        Keyword::If => Some(Head::If),
-        Keyword::Not => Some(Head::Signed(Prefix::Not)),
-        Keyword::Abs => Some(Head::One(OneOperand::Unary(UnaryFunction::Abs))),
-        Keyword::Ceil => Some(Head::One(OneOperand::Unary(UnaryFunction::Ceil))),
-        Keyword::Floor => Some(Head::One(OneOperand::Unary(UnaryFunction::Floor))),
-        Keyword::Trim => Some(Head::One(OneOperand::Unary(UnaryFunction::Trim))),
-        Keyword::Ltrim => Some(Head::One(OneOperand::Unary(UnaryFunction::Ltrim))),
-        Keyword::Rtrim => Some(Head::One(OneOperand::Unary(UnaryFunction::Rtrim))),
-        Keyword::Upper => Some(Head::One(OneOperand::Unary(UnaryFunction::Upper))),
-        Keyword::Lower => Some(Head::One(OneOperand::Unary(UnaryFunction::Lower))),
-        Keyword::Length => Some(Head::One(OneOperand::Unary(UnaryFunction::Length))),
-        Keyword::Isnull => Some(Head::One(OneOperand::Unary(UnaryFunction::Isnull))),
-        Keyword::Round => Some(Head::One(OneOperand::Round(RoundFunction::Round))),
-        Keyword::Trunc => Some(Head::One(OneOperand::Round(RoundFunction::Trunc))),
-        Keyword::Mod => Some(Head::Two(TwoOperands::Binary(BinaryFunction::Mod))),
-        Keyword::Nvl => Some(Head::Two(TwoOperands::Binary(BinaryFunction::Nvl))),
-        Keyword::Instr => Some(Head::Two(TwoOperands::Binary(BinaryFunction::Instr))),
-        Keyword::Between => Some(Head::One(OneOperand::Between)),
-        Keyword::MatchCharacters => Some(Head::One(OneOperand::MatchCharacters)),
-        Keyword::Substr => Some(Head::Substr),
-        Keyword::Replace => Some(Head::Replace),
-        Keyword::ExistsIn => Some(Head::Two(TwoOperands::ExistsIn)),
-        Keyword::Union => Some(Head::Sets(SetFunction::Union)),
-        Keyword::Intersect => Some(Head::Sets(SetFunction::Intersect)),
-        Keyword::Setdiff => Some(Head::Two(TwoOperands::Difference(DifferenceFunction::Setdiff))),
-        Keyword::Symdiff => Some(Head::Two(TwoOperands::Difference(DifferenceFunction::Symdiff))),
-        Keyword::InnerJoin => Some(Head::Join(JoinFunction::Inner)),
-        Keyword::LeftJoin => Some(Head::Join(JoinFunction::Left)),
-        Keyword::FullJoin => Some(Head::Join(JoinFunction::Full)),
-        Keyword::CrossJoin => Some(Head::Join(JoinFunction::Cross)),
-        Keyword::Sum => Some(Head::Aggregate(AggregateFunction::Sum)),
-        Keyword::Avg => Some(Head::Aggregate(AggregateFunction::Avg)),
-        Keyword::Min => Some(Head::Aggregate(AggregateFunction::Min)),
-        Keyword::Max => Some(Head::Aggregate(AggregateFunction::Max)),
-        Keyword::Median => Some(Head::Aggregate(AggregateFunction::Median)),
-        Keyword::Count => Some(Head::Count),
-        Keyword::FirstValue => Some(Head::One(OneOperand::Window(WindowFunction::FirstValue))),
-        Keyword::LastValue => Some(Head::One(OneOperand::Window(WindowFunction::LastValue))),
-        Keyword::RatioToReport => Some(Head::One(OneOperand::Window(
+        Keyword::If => Some(PrefixForm::If),
+        Keyword::Not => Some(PrefixForm::Signed(Prefix::Not)),
+        Keyword::Abs => Some(PrefixForm::One(OneOperand::Unary(UnaryFunction::Abs))),
+        Keyword::Ceil => Some(PrefixForm::One(OneOperand::Unary(UnaryFunction::Ceil))),
+        Keyword::Floor => Some(PrefixForm::One(OneOperand::Unary(UnaryFunction::Floor))),
+        Keyword::Trim => Some(PrefixForm::One(OneOperand::Unary(UnaryFunction::Trim))),
+        Keyword::Ltrim => Some(PrefixForm::One(OneOperand::Unary(UnaryFunction::Ltrim))),
+        Keyword::Rtrim => Some(PrefixForm::One(OneOperand::Unary(UnaryFunction::Rtrim))),
+        Keyword::Upper => Some(PrefixForm::One(OneOperand::Unary(UnaryFunction::Upper))),
+        Keyword::Lower => Some(PrefixForm::One(OneOperand::Unary(UnaryFunction::Lower))),
+        Keyword::Length => Some(PrefixForm::One(OneOperand::Unary(UnaryFunction::Length))),
+        Keyword::Isnull => Some(PrefixForm::One(OneOperand::Unary(UnaryFunction::Isnull))),
+        Keyword::Round => Some(PrefixForm::One(OneOperand::Round(RoundFunction::Round))),
+        Keyword::Trunc => Some(PrefixForm::One(OneOperand::Round(RoundFunction::Trunc))),
+        Keyword::Mod => Some(PrefixForm::Two(TwoOperands::Binary(BinaryFunction::Mod))),
+        Keyword::Nvl => Some(PrefixForm::Two(TwoOperands::Binary(BinaryFunction::Nvl))),
+        Keyword::Instr => Some(PrefixForm::Two(TwoOperands::Binary(BinaryFunction::Instr))),
+        Keyword::Between => Some(PrefixForm::One(OneOperand::Between)),
+        Keyword::MatchCharacters => Some(PrefixForm::One(OneOperand::MatchCharacters)),
+        Keyword::Substr => Some(PrefixForm::Substr),
+        Keyword::Replace => Some(PrefixForm::Replace),
+        Keyword::ExistsIn => Some(PrefixForm::Two(TwoOperands::ExistsIn)),
+        Keyword::Union => Some(PrefixForm::Sets(SetFunction::Union)),
+        Keyword::Intersect => Some(PrefixForm::Sets(SetFunction::Intersect)),
+        Keyword::Setdiff => Some(PrefixForm::Two(TwoOperands::Difference(
+            DifferenceFunction::Setdiff,
+        ))),
+        Keyword::Symdiff => Some(PrefixForm::Two(TwoOperands::Difference(
+            DifferenceFunction::Symdiff,
+        ))),
+        Keyword::InnerJoin => Some(PrefixForm::Join(JoinFunction::Inner)),
+        Keyword::LeftJoin => Some(PrefixForm::Join(JoinFunction::Left)),
+        Keyword::FullJoin => Some(PrefixForm::Join(JoinFunction::Full)),
+        Keyword::CrossJoin => Some(PrefixForm::Join(JoinFunction::Cross)),
+        Keyword::Sum => Some(PrefixForm::Aggregate(AggregateFunction::Sum)),
+        Keyword::Avg => Some(PrefixForm::Aggregate(AggregateFunction::Avg)),
+        Keyword::Min => Some(PrefixForm::Aggregate(AggregateFunction::Min)),
+        Keyword::Max => Some(PrefixForm::Aggregate(AggregateFunction::Max)),
+        Keyword::Median => Some(PrefixForm::Aggregate(AggregateFunction::Median)),
+        Keyword::Count => Some(PrefixForm::Count),
+        Keyword::FirstValue => Some(PrefixForm::One(OneOperand::Window(
+            WindowFunction::FirstValue,
+        ))),
+        Keyword::LastValue => Some(PrefixForm::One(OneOperand::Window(WindowFunction::LastValue))),
+        Keyword::RatioToReport => Some(PrefixForm::One(OneOperand::Window(
             WindowFunction::RatioToReport,
         ))),
-        Keyword::Lag => Some(Head::One(OneOperand::Offset(OffsetFunction::Lag))),
-        Keyword::Lead => Some(Head::One(OneOperand::Offset(OffsetFunction::Lead))),
-        Keyword::Rank => Some(Head::Rank),
-        Keyword::CheckDatapoint => Some(Head::One(OneOperand::CheckDatapoint)),
-        Keyword::Hierarchy => Some(Head::One(OneOperand::Hierarchy)),
-        Keyword::CheckHierarchy => Some(Head::One(OneOperand::CheckHierarchy)),
-        Keyword::Check => Some(Head::Check),
+        Keyword::Lag => Some(PrefixForm::One(OneOperand::Offset(OffsetFunction::Lag))),
+        Keyword::Lead => Some(PrefixForm::One(OneOperand::Offset(OffsetFunction::Lead))),
+        Keyword::Rank => Some(PrefixForm::Rank),
+        Keyword::FlowToStock => Some(PrefixForm::One(OneOperand::Time(TimeFunction::FlowToStock))),
+        Keyword::StockToFlow => Some(PrefixForm::One(OneOperand::Time(TimeFunction::StockToFlow))),
+        Keyword::PeriodIndicator => Some(PrefixForm::One(OneOperand::Time(
+            TimeFunction::PeriodIndicator,
+        ))),
+        Keyword::Timeshift => Some(PrefixForm::One(OneOperand::Timeshift)),
+        Keyword::FillTimeSeries => Some(PrefixForm::One(OneOperand::FillTimeSeries)),
+        Keyword::CheckDatapoint => Some(PrefixForm::One(OneOperand::CheckDatapoint)),
+        Keyword::Hierarchy => Some(PrefixForm::One(OneOperand::Hierarchy)),
+        Keyword::CheckHierarchy => Some(PrefixForm::One(OneOperand::CheckHierarchy)),
+        Keyword::Check => Some(PrefixForm::Check),
         _ => None,
     }
 }
 
 /// What goes on with that token.
-pub fn link_of(kind: &TokenKind) -> Option<Link>
-    ensures { option_map link_tail result ≡ tail_at (mark_in kind.now) }
+pub fn suffix_form_of(kind: &TokenKind) -> Option<SuffixForm>
+    ensures { option_map suffix_tail result ≡ tail_at (mark_in kind.now) }
 {
     match kind {
-        TokenKind::Reserved(word) => word_link(*word),
-        TokenKind::Sign(mark) => sign_link(*mark),
+        TokenKind::Reserved(word) => suffix_form_of_word(*word),
+        TokenKind::Sign(mark) => suffix_form_of_sign(*mark),
         _ => None,
     }
 }
 
-fn sign_link(mark: Sign) -> Option<Link>
-    ensures { option_map link_tail result ≡ tail_of (sign mark) }
+fn suffix_form_of_sign(mark: Sign) -> Option<SuffixForm>
+    ensures { option_map suffix_tail result ≡ tail_of (sign mark) }
 {
     match mark {
-        Sign::Equal => Some(Link::Infix(Infix::Compare(Comparison::Equal))),
-        Sign::NotEqual => Some(Link::Infix(Infix::Compare(Comparison::NotEqual))),
-        Sign::LessThan => Some(Link::Infix(Infix::Compare(Comparison::Less))),
-        Sign::GreaterThan => Some(Link::Infix(Infix::Compare(Comparison::Greater))),
-        Sign::AtMost => Some(Link::Infix(Infix::Compare(Comparison::AtMost))),
-        Sign::AtLeast => Some(Link::Infix(Infix::Compare(Comparison::AtLeast))),
-        Sign::Plus => Some(Link::Infix(Infix::Sum(SumSign::Plus))),
-        Sign::Minus => Some(Link::Infix(Infix::Sum(SumSign::Minus))),
-        Sign::Bars => Some(Link::Infix(Infix::Sum(SumSign::Join))),
-        Sign::Star => Some(Link::Infix(Infix::Product(ProductSign::Times))),
-        Sign::Slash => Some(Link::Infix(Infix::Product(ProductSign::Over))),
-        Sign::Hash => Some(Link::Member),
-        Sign::LeftBracket => Some(Link::Clause),
+        Sign::Equal => Some(SuffixForm::Infix(Infix::Compare(Comparison::Equal))),
+        Sign::NotEqual => Some(SuffixForm::Infix(Infix::Compare(Comparison::NotEqual))),
+        Sign::LessThan => Some(SuffixForm::Infix(Infix::Compare(Comparison::Less))),
+        Sign::GreaterThan => Some(SuffixForm::Infix(Infix::Compare(Comparison::Greater))),
+        Sign::AtMost => Some(SuffixForm::Infix(Infix::Compare(Comparison::AtMost))),
+        Sign::AtLeast => Some(SuffixForm::Infix(Infix::Compare(Comparison::AtLeast))),
+        Sign::Plus => Some(SuffixForm::Infix(Infix::Sum(SumSign::Plus))),
+        Sign::Minus => Some(SuffixForm::Infix(Infix::Sum(SumSign::Minus))),
+        Sign::Bars => Some(SuffixForm::Infix(Infix::Sum(SumSign::Join))),
+        Sign::Star => Some(SuffixForm::Infix(Infix::Product(ProductSign::Times))),
+        Sign::Slash => Some(SuffixForm::Infix(Infix::Product(ProductSign::Over))),
+        Sign::LeftParen => Some(SuffixForm::Call),
+        Sign::Hash => Some(SuffixForm::Member),
+        Sign::LeftBracket => Some(SuffixForm::Clause),
         _ => None,
     }
 }
 
-fn word_link(word: Keyword) -> Option<Link>
-    ensures { option_map link_tail result ≡ tail_of (key word) }
+fn suffix_form_of_word(word: Keyword) -> Option<SuffixForm>
+    ensures { option_map suffix_tail result ≡ tail_of (key word) }
 {
     match word {
-        Keyword::Or => Some(Link::Infix(Infix::Or(OrSign::Or))),
-        Keyword::Xor => Some(Link::Infix(Infix::Or(OrSign::Xor))),
-        Keyword::And => Some(Link::Infix(Infix::And)),
-        Keyword::In => Some(Link::In(InSign::In)),
-        Keyword::NotIn => Some(Link::In(InSign::NotIn)),
+        Keyword::Or => Some(SuffixForm::Infix(Infix::Or(OrSign::Or))),
+        Keyword::Xor => Some(SuffixForm::Infix(Infix::Or(OrSign::Xor))),
+        Keyword::And => Some(SuffixForm::Infix(Infix::And)),
+        Keyword::In => Some(SuffixForm::In(InSign::In)),
+        Keyword::NotIn => Some(SuffixForm::In(InSign::NotIn)),
         _ => None,
     }
 }
 
-impl Head {
-    ghost use Rattle.std.specs.Prelude.{◌≡◌};
-    ghost use Rattle.vtl_parser.specs.Forms.{head_form};
+impl PrefixForm {
+    ghost use Rattle.std.specs.Prelude.{◌≡◌, ◌≤◌};
+    ghost use Rattle.vtl_parser.specs.Forms.{prefix_form};
 
-    /// The level of the form.
-    pub fn level(self) -> u8
-        ensures { result ≡ (head_form self).level }
+    /// The precedence of the form.
+    pub fn precedence(self) -> u8
+        ensures value { result ≡ (prefix_form self).precedence }
+        ensures below_names { result ≤ 7 }
     {
         match self {
-            Head::If => 0,
-            Head::Signed(_) => 6,
+            PrefixForm::If => 0,
+            PrefixForm::Signed(_) => 6,
             _ => 7,
         }
     }
 }
 
-impl Link {
-    ghost use Rattle.std.specs.Prelude.{◌≡◌};
-    ghost use Rattle.vtl_parser.specs.Forms.{link_tail};
+impl SuffixForm {
+    ghost use Rattle.std.specs.Prelude.{◌≡◌, ◌≤◌};
+    ghost use Rattle.vtl_parser.specs.Forms.{suffix_tail};
 
-    /// The level of what it makes.
-    pub fn level(self) -> u8
-        ensures { result ≡ (link_tail self).level }
+    /// The precedence of what it makes.
+    pub fn precedence(self) -> u8
+        ensures value { result ≡ (suffix_tail self).precedence }
+        ensures below_names { result ≤ 7 }
     {
         match self {
-            Link::Infix(sign) => sign.level(),
-            Link::In(_) => 3,
-            Link::Member | Link::Clause => 7,
+            SuffixForm::Infix(sign) => sign.precedence(),
+            SuffixForm::In(_) => 3,
+            SuffixForm::Call | SuffixForm::Member | SuffixForm::Clause => 7,
+        }
+    }
+
+    /// The precedence that the operand before it has at least.
+    pub fn operand(self) -> u8
+        ensures { result ≡ (suffix_tail self).operand }
+    {
+        match self {
+            SuffixForm::Infix(sign) => sign.precedence(),
+            SuffixForm::In(_) => 3,
+            SuffixForm::Call => NAME,
+            SuffixForm::Member | SuffixForm::Clause => 7,
         }
     }
 }
 
-impl Infix {
-    ghost use Rattle.std.specs.Prelude.{◌≡◌};
-    ghost use Rattle.vtl_parser.specs.Forms.{infix_level};
+/// The precedence of a name, which is the highest.
+pub const NAME: u8 = 9;
 
-    pub fn level(self) -> u8
-        ensures { result ≡ infix_level self }
+impl Infix {
+    ghost use Rattle.std.specs.Prelude.{◌≡◌, ◌≤◌};
+    ghost use Rattle.vtl_parser.specs.Forms.{infix_precedence};
+
+    pub fn precedence(self) -> u8
+        ensures value { result ≡ infix_precedence self }
+        ensures below_calls { result ≤ 5 }
     {
         match self {
             Infix::Or(_) => 1,

@@ -1,10 +1,10 @@
 // What is read of an expression without another one inside it.
 ghost use Rattle.std.specs.Prelude.{◌≡◌, Some, IfOk, option_map};
 ghost use Rattle.vtl_syntax.specs.declared.expr.Expr.TheVariants as tree;
-ghost use Rattle.vtl_grammar.specs.Forms.{leaf_in};
-ghost use Rattle.vtl_parser.specs.Forms.{leaf_there, form_there, tail_there, head_form, link_tail, infix_tree};
+ghost use Rattle.vtl_grammar.specs.Forms.{leaf_in, leaf_precedence};
+ghost use Rattle.vtl_parser.specs.Forms.{leaf_there, form_there, tail_there, prefix_form, suffix_tail, infix_tree};
 
-use crate::form::{Head, Infix, Link, head_of, link_of};
+use crate::form::{Infix, NAME, PrefixForm, SuffixForm, prefix_form_of, suffix_form_of};
 use sqlite_items::Boxed;
 use std::alloc::{AllocError, Global};
 use vtl_cursor::Cursor;
@@ -12,15 +12,30 @@ use vtl_syntax::Expr;
 use vtl_tokens::{Keyword, Token, TokenKind};
 use vtl_values::{Place, Value};
 
-/// The name or the literal that stands there.
-pub fn leaf(alloc: Global, cursor: &Cursor) -> Result<Option<Boxed<Expr>>, AllocError>
+/// The name or the literal that stands there, and its precedence.
+pub fn leaf(alloc: Global, cursor: &Cursor) -> Result<Option<(Boxed<Expr>, u8)>, AllocError>
     ensures { IfOk result (λ leaf. leaf ≡ leaf_there cursor.now.tokens.now) }
 {
-    match cursor.tokens {
-        [first, ..] => leaf_of(alloc, first),
-        [] => Ok(None),
+    let [first, ..] = cursor.tokens else {
+        return Ok(None);
+    };
+    match leaf_of(alloc, first)? {
+        Some(leaf) => Ok(Some((leaf, leaf_precedence(&first.what)))),
+        None => Ok(None),
     }
 }
+
+fn leaf_precedence(kind: &TokenKind) -> u8
+    ensures { result ≡ leaf_precedence kind.now }
+{
+    match kind {
+        TokenKind::Name(_) => NAME,
+        _ => LITERAL,
+    }
+}
+
+/// The precedence of a literal.
+const LITERAL: u8 = 8;
 
 fn leaf_of(alloc: Global, token: &Token) -> Result<Option<Boxed<Expr>>, AllocError>
     ensures { IfOk result (λ leaf. leaf ≡ leaf_in token.now.what token.now.place) }
@@ -48,21 +63,21 @@ fn literal(alloc: Global, value: Value, place: Place) -> Result<Option<Boxed<Exp
 }
 
 /// What begins there and is no leaf, and its place.
-pub fn head(cursor: &Cursor) -> Option<(Head, Place)>
-    ensures { option_map (λ h. (head_form h.0, h.1)) result ≡ form_there cursor.now.tokens.now }
+pub fn head(cursor: &Cursor) -> Option<(PrefixForm, Place)>
+    ensures { option_map (λ h. (prefix_form h.0, h.1)) result ≡ form_there cursor.now.tokens.now }
 {
     match cursor.tokens {
-        [Token { what, place }, ..] => Some((head_of(what)?, *place)),
+        [Token { what, place }, ..] => Some((prefix_form_of(what)?, *place)),
         [] => None,
     }
 }
 
-/// What goes on there behind an expression, and its place.
-pub fn link(cursor: &Cursor) -> Option<(Link, Place)>
-    ensures { option_map (λ l. (link_tail l.0, l.1)) result ≡ tail_there cursor.now.tokens.now }
+/// What goes on there after an expression, and its place.
+pub fn link(cursor: &Cursor) -> Option<(SuffixForm, Place)>
+    ensures { option_map (λ l. (suffix_tail l.0, l.1)) result ≡ tail_there cursor.now.tokens.now }
 {
     match cursor.tokens {
-        [Token { what, place }, ..] => Some((link_of(what)?, *place)),
+        [Token { what, place }, ..] => Some((suffix_form_of(what)?, *place)),
         [] => None,
     }
 }

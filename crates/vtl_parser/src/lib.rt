@@ -1,31 +1,39 @@
 //! The parser: from the tokens of a script to its tree.
 //!
 //! It reads from left to right by recursive descent, and each function is proved to answer as the reader of the grammar
-//! does. The contract of `parse` gives, for all tokens of which the last alone is the end, the script that they are, or
-//! the fault that the grammar names and its place; only want of memory is free. It stands on the grammar of
-//! `vtl_grammar`, on the cursor and the parts of `vtl_cursor` and `vtl_parts`, and on what `vtl_faults` says of faults.
+//! does. Only `expression` is recursive: what holds expressions is read by the methods of `Parser`, which has the reader
+//! of those as a value, so each is proved by itself. The contract of `parse` says by the grammar alone, for all tokens of
+//! which the last alone is the end, that they are the script or have the fault that it gives, and nothing else; only want
+//! of memory is free. It stands on the grammar of `vtl_grammar`, and on the cursor of `vtl_cursor`
+//! with what is read by it.
 #![tactic(auto)]
 
-#[tactic(auto, using(crate::proofs::ShownDeep::shown_deep))]
+#[tactic(auto, using(vtl_cursor::proofs::Shown::shown_deep))]
 mod call;
-#[tactic(auto, using(crate::proofs::ShownDeep::shown_deep))]
+#[tactic(auto, using(vtl_cursor::proofs::Shown::shown_deep))]
 mod clause;
+mod definition;
 #[tactic(auto, using(vtl_cursor::proofs::Shown::shown))]
 mod ending;
+#[tactic(auto, using(vtl_cursor::proofs::Shown::shown_deep))]
 mod expression;
 mod form;
-#[tactic(auto, using(crate::proofs::ShownDeep::shown_deep))]
+#[tactic(auto, using(vtl_cursor::proofs::Shown::shown_deep))]
 mod join;
 mod leaf;
 mod mark;
+#[tactic(auto, using(vtl_cursor::proofs::Shown::shown_deep))]
+mod operators;
+#[tactic(auto, using(vtl_cursor::proofs::Shown::shown_deep))]
+mod parser;
 pub mod parsing;
 #[tactic(auto, using(vtl_cursor::proofs::Shown::shown))]
 mod plain_clause;
-#[tactic(auto, using(crate::proofs::ShownDeep::shown_deep, vtl_cursor::proofs::Shown::shown))]
+#[tactic(auto, using(vtl_cursor::proofs::Shown::shown_deep, vtl_cursor::proofs::Shown::shown))]
 mod rulesets;
-#[tactic(auto, using(crate::proofs::ShownDeep::shown_deep, vtl_cursor::proofs::Shown::shown))]
+#[tactic(auto, using(vtl_cursor::proofs::Shown::shown_deep, vtl_cursor::proofs::Shown::shown))]
 mod script;
 pub mod stop;
 
-pub use parsing::{is_ended, parse};
+pub use parsing::parse;
 pub use stop::{ParseFault, ParseStop};

@@ -1,17 +1,17 @@
 // What a list of tokens is: its script, or its fault.
-ghost use Rattle.std.specs.Prelude.{◌≡◌, ◌&&◌, ◌↔◌, IsTrue, IfOk, Some};
+ghost use Rattle.std.specs.Prelude.{◌≡◌, ◌&&◌, IfOk, Some};
 ghost use Rattle.vtl_grammar.specs.Reading.{halt};
 ghost use Rattle.vtl_grammar.specs.Laws.{read_whole, with_rename, passes_last};
 ghost use Rattle.vtl_cursor.specs.Views.{kind_of};
-ghost use Rattle.vtl_faults.specs.LeftOut as meant;
-ghost use Rattle.vtl_faults.specs.Parsed.{fault_of as fault_meant, word_in, unexpected, expected_or_left_out};
-ghost use Rattle.vtl_parser.specs.Parses.{IsEnded, IsAnswer, answered, fault_of, is_end};
+ghost use Rattle.vtl_tokens.specs.declared.keyword.Keyword.TheVariants as words;
+ghost use Rattle.vtl_grammar.specs.LeftOut.{is_same_word, ends_with_group, is_left_out_at};
+ghost use Rattle.vtl_grammar.specs.Parsed.{fault_of as fault_meant, word_in, unexpected, expected_or_left_out};
+ghost use Rattle.vtl_parser.specs.Parses.{IsEnded, IsAnswer, fault_of};
 
 use crate::script::whole;
 use crate::stop::{ParseFault, ParseStop};
 use std::alloc::{AllocError, Global};
-use vtl_cursor::{Cursor, Kind, Stop};
-use vtl_faults::{ends_with_group, is_aggr, is_all, is_left_out};
+use vtl_cursor::{Cursor, Kind, Stop, is_same_word, is_word};
 use vtl_syntax::Script;
 use vtl_tokens::{Keyword, Token, TokenKind};
 use vtl_values::Place;
@@ -19,7 +19,7 @@ use vtl_values::Place;
 /// The script that the tokens before the end are, or the fault that they have and its place.
 pub fn parse(alloc: Global, tokens: &[Token]) -> Result<Script, ParseStop>
     requires { IsEnded tokens.now }
-    ensures { IsAnswer result (answered tokens.now) }
+    ensures { IsAnswer tokens.now result }
 {
     let mut cursor = Cursor::new(tokens);
     match whole(alloc, &mut cursor) {
@@ -31,26 +31,6 @@ pub fn parse(alloc: Global, tokens: &[Token]) -> Result<Script, ParseStop>
             Err(ParseStop::Fault(fault, tokens[read].place))
         }
     }
-}
-
-/// Whether the last of the tokens, and no other, is the end.
-pub fn is_ended(tokens: &[Token]) -> bool
-    ensures { IsTrue result ↔ IsEnded tokens.now }
-{
-    let mut rest = tokens;
-    while let [first, more @ ..] = rest {
-        if is_end(&first.what) {
-            return more.is_empty();
-        }
-        rest = more;
-    }
-    false
-}
-
-fn is_end(kind: &TokenKind) -> bool
-    ensures { result ≡ is_end kind.now }
-{
-    matches!(kind, TokenKind::End)
 }
 
 /// The fault of reading that stops at the first token of the rest.
@@ -102,25 +82,34 @@ fn unexpected_word(
     Ok(ParseFault::Expected)
 }
 
-/// Whether the word is left out behind these tokens.
+/// Whether the word is left out after these tokens.
 fn is_left_out_at(
     alloc: Global,
     word: Keyword,
     front: &[Token],
     place: Place,
 ) -> Result<bool, AllocError>
-    ensures { IfOk result (λ left_out. meant.is_left_out_at word front.now place ≡ left_out) }
+    ensures { IfOk result (λ left_out. is_left_out_at word front.now place ≡ left_out) }
 {
-    if is_left_out(word) || is_all_of_group(word, front) {
+    if word.is_left_out() || is_all_of_group(word, front) {
         return Ok(true);
     }
     is_aggr_of_join(alloc, word, front, place)
 }
 
 fn is_all_of_group(word: Keyword, front: &[Token]) -> bool
-    ensures { (meant.is_all word && meant.ends_with_group front.now) ≡ result }
+    ensures { (is_same_word word words.All && ends_with_group front.now) ≡ result }
 {
-    is_all(word) && ends_with_group(front)
+    is_same_word(word, Keyword::All) && ends_with_group(front)
+}
+
+fn ends_with_group(tokens: &[Token]) -> bool
+    ensures { ends_with_group tokens.now ≡ result }
+{
+    match tokens.last() {
+        Some(token) => is_word(&token.what, Keyword::Group),
+        None => false,
+    }
 }
 
 fn is_aggr_of_join(
@@ -129,15 +118,15 @@ fn is_aggr_of_join(
     front: &[Token],
     place: Place,
 ) -> Result<bool, AllocError>
-    ensures { IfOk result (λ left_out. (meant.is_aggr word && passes_last (read_whole (with_rename front.now place))) ≡ left_out) }
+    ensures { IfOk result (λ left_out. (is_same_word word words.Aggr && passes_last (read_whole (with_rename front.now place))) ≡ left_out) }
 {
-    if !is_aggr(word) {
+    if !is_same_word(word, Keyword::Aggr) {
         return Ok(false);
     }
     passes_rename(alloc, front, place)
 }
 
-/// Whether reading passes the word `rename` behind these tokens, or stops there at a limit alone.
+/// Whether reading passes the word `rename` after these tokens, or stops there at a limit alone.
 fn passes_rename(alloc: Global, front: &[Token], place: Place) -> Result<bool, AllocError>
     ensures { IfOk result (λ passes. passes_last (read_whole (with_rename front.now place)) ≡ passes) }
 {
@@ -162,35 +151,17 @@ fn passes(kind: Kind, rest: &[Token]) -> bool
     }
 }
 
-/// Copies of the tokens, and the word `rename` behind them.
+/// Copies of the tokens, and the word `rename` after them.
 fn with_rename(alloc: Global, front: &[Token], place: Place) -> Result<Vec<Token>, AllocError>
     ensures { IfOk result (λ tokens. tokens.items ≡ with_rename front.now place) }
 {
     let mut tokens = Vec::new(alloc);
     for token in front {
-        tokens.push(copy(token)?)?;
+        tokens.push(token.copy()?)?;
     }
     tokens.push(Token {
         what: TokenKind::Reserved(Keyword::Rename),
         place,
     })?;
     Ok(tokens)
-}
-
-fn copy(token: &Token) -> Result<Token, AllocError>
-    ensures { IfOk result (λ copy. copy ≡ token.now) }
-{
-    let what = match &token.what {
-        TokenKind::Name(name) => TokenKind::Name(name.copy()?),
-        TokenKind::Text(text) => TokenKind::Text(text.copy()?),
-        TokenKind::Reserved(word) => TokenKind::Reserved(*word),
-        TokenKind::Integer(value) => TokenKind::Integer(*value),
-        TokenKind::Number(value) => TokenKind::Number(*value),
-        TokenKind::Sign(sign) => TokenKind::Sign(*sign),
-        TokenKind::End => TokenKind::End,
-    };
-    Ok(Token {
-        what,
-        place: token.place,
-    })
 }

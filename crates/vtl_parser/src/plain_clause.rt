@@ -8,11 +8,11 @@ ghost use Rattle.vtl_cursor.specs.Views.{Shows};
 
 use sqlite_items::Boxed;
 use std::alloc::Global;
-use vtl_cursor::{Cursor, Stop};
-use vtl_parts::commas;
+use vtl_cursor::{Cursor, Stop, commas};
 use vtl_syntax::{Clause, Comp, Rename, SubItem};
 use vtl_tokens::{Keyword, Sign};
 
+/// `keep c, ..`
 pub fn keep_clause(alloc: Global, cursor: &mut Cursor) -> Result<Boxed<Clause>, Stop>
     ensures { Shows keep_of cursor.new.tokens.now result (read_plain limits no_part keep_rule cursor.old.tokens.now) }
 {
@@ -22,6 +22,7 @@ pub fn keep_clause(alloc: Global, cursor: &mut Cursor) -> Result<Boxed<Clause>, 
     Ok(Boxed::new(alloc, clause)?)
 }
 
+/// `drop c, ..`
 pub fn drop_clause(alloc: Global, cursor: &mut Cursor) -> Result<Boxed<Clause>, Stop>
     ensures { Shows drop_of cursor.new.tokens.now result (read_plain limits no_part drop_rule cursor.old.tokens.now) }
 {
@@ -43,6 +44,7 @@ pub fn kept_clause(alloc: Global, cursor: &mut Cursor) -> Result<Boxed<Clause>, 
     Ok(clause)
 }
 
+/// `rename c to d, ..`
 pub fn rename_clause(alloc: Global, cursor: &mut Cursor) -> Result<Boxed<Clause>, Stop>
     ensures { Shows rename_of cursor.new.tokens.now result (read_plain limits no_part rename_rule cursor.old.tokens.now) }
 {
@@ -52,6 +54,7 @@ pub fn rename_clause(alloc: Global, cursor: &mut Cursor) -> Result<Boxed<Clause>
     Ok(Boxed::new(alloc, clause)?)
 }
 
+/// `sub c = literal, ..`
 pub fn sub_clause(alloc: Global, cursor: &mut Cursor) -> Result<Boxed<Clause>, Stop>
     ensures { Shows sub_of cursor.new.tokens.now result (read_plain limits no_part sub_rule cursor.old.tokens.now) }
 {
@@ -61,6 +64,7 @@ pub fn sub_clause(alloc: Global, cursor: &mut Cursor) -> Result<Boxed<Clause>, S
     Ok(Boxed::new(alloc, clause)?)
 }
 
+/// `unpivot identifier, measure`
 pub fn unpivot_clause(alloc: Global, cursor: &mut Cursor) -> Result<Boxed<Clause>, Stop>
     ensures { Shows unpivot_of cursor.new.tokens.now result (read_plain limits no_part unpivot_rule cursor.old.tokens.now) }
 {

@@ -1,2 +1,5 @@
+pub mod Spellings
+pub mod Layouts
+pub mod LexedBack
 pub mod Shown
-pub mod Laws
+pub mod ReadBack

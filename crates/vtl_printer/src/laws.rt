@@ -1,17 +1,7 @@
-// What is read of a printed script.
-ghost use Rattle.vtl_printer.specs.Laws.{PrintsOnce, ReadsBack, ReadsTextsBack};
+// The law of printing.
+ghost use Rattle.vtl_printer.specs.ReadBack.{PrintsOnce};
 
-/// A script that tokens of a text are is printed so that it is read back, apart from places.
-pub fn reads_back()
-    ensures { ReadsBack }
-{}
-
-/// A script that a text is, is printed so that it is read back, apart from places.
-pub fn reads_texts_back()
-    ensures { ReadsTextsBack }
-{}
-
-/// What is read back is printed as before.
+/// Scripts that are the same apart from places are printed alike.
 pub fn prints_once()
     ensures { PrintsOnce }
 {}

@@ -1,6 +1,6 @@
 -- Forms of expressions that begin with a word of their own, as their rules tell them: joins, aggregates, windows,
 -- rulesets and checks.
-use Rattle.std.proofs.Common.{◌≡◌, List, Option, Some, None, inl, inr, refl, sym, ap, ◌∙◌, map, append_assoc}
+use Rattle.std.proofs.Common.{◌≡◌, lit<, List, Option, Some, None, inl, inr, refl, sym, ap, ◌∙◌, map, append_assoc}
 use Rattle.std.specs.Prelude.{ℤ, option_map}
 use Rattle.std.specs.List.{flat_map}
 use Rattle.std.proofs.lemmas.List.Folds.{flat_map-map}
@@ -50,6 +50,7 @@ more_operands xs = flat_map-map (λ (ks : Kinds). k.comma & ks) operand_spelled 
 
 pub join-told : (f : JoinFunction) → FormTold (join_kind f) (c.join f)
 join-told f = record {
+  low = lit< tt;
   tells = λ v p.
       let more = map (λ w. c.join_operand_of w.1) v.1.1.1.0.1 in
       let x = v.1.1.1.1 in
@@ -68,6 +69,7 @@ join-told f = record {
 
 pub window-told : (f : WindowFunction) → FormTold (window_kind f) (c.window f)
 window-told f = record {
+  low = lit< tt;
   tells = λ v p.
       let o = over-told.tells v.1.1.0 in (
         folded-Window spelling f v.1.0 (c.over_of v.1.1.0) p ∙ ap (λ (x : Kinds). one (window_kind f) & k.open_paren & spelled v.1.0 & x & k.close_paren) o.0,
@@ -77,6 +79,7 @@ window-told f = record {
 
 pub offset-told : (f : OffsetFunction) → FormTold (offset_kind f) (c.offset f)
 offset-told f = record {
+  low = lit< tt;
   tells = λ v p.
       let o = over-told.tells v.1.1.1.1.0 in (
         folded-Offset spelling f v.1.0 v.1.1.1.0.value (c.over_of v.1.1.1.1.0) p ∙ ap (λ (x : Kinds). one (offset_kind f) & k.open_paren & spelled v.1.0 & k.comma & k.integer v.1.1.1.0.value & x & k.close_paren) o.0,
@@ -86,6 +89,7 @@ offset-told f = record {
 
 pub rank-told : FormTold (what.Reserved words.Rank) c.rank
 rank-told = record {
+  low = lit< tt;
   tells = λ v p.
       let o = over-told.tells v.1.0 in (
         folded-Rank spelling (c.over_of v.1.0) p ∙ ap (λ (x : Kinds). k.key words.Rank & k.open_paren & x & k.close_paren) o.0,
@@ -111,10 +115,10 @@ aggregate-case f h same e (Some (inr w)) p =
 
 -- an aggregate, or a window whose word is the same
 pub aggregate-told : (f : AggregateFunction) (h : WindowFunction) → window_kind h ≡ aggregate_kind f → FormTold (aggregate_kind f) (c.aggregate f h)
-aggregate-told f h same = record { tells = λ v p. aggregate-case f h same v.1.0 v.1.1.0 p }
+aggregate-told f h same = record { low = lit< tt; tells = λ v p. aggregate-case f h same v.1.0 v.1.1.0 p }
 
 pub count-told : FormTold (what.Reserved words.Count) c.count
-count-told = record { tells = λ v p. by_case v.1 p }
+count-told = record { low = lit< tt; tells = λ v p. by_case v.1 p }
   where
     by_case : (v : Of c.count_rest) (p : Place) → (spelled (c.count_of v p) ≡ k.key words.Count & k.open_paren & value_spelled c.count_rest v) × (placeless (c.count_of v p) ≡ c.count_of (value_placeless c.count_rest v) nowhere)
     by_case (inl q) p = (folded-CountAll spelling p, folded-CountAll baring p)
@@ -124,6 +128,7 @@ count-told = record { tells = λ v p. by_case v.1 p }
 
 pub check_datapoint-told : FormTold (what.Reserved words.CheckDatapoint) c.check_datapoint
 check_datapoint-told = record {
+  low = lit< tt;
   tells = λ v p. (
     folded-CheckDatapoint spelling v.1.0 v.1.1.1.0.value v.1.1.1.0.place (option_map c.rows_output_of v.1.1.1.1.0) p
         ∙ ap (λ (x : Kinds). k.key words.CheckDatapoint & k.open_paren & spelled v.1.0 & k.comma & k.name v.1.1.1.0.value & x & k.close_paren) (optional-told _ _ _ _ rows_output-told v.1.1.1.1.0),
@@ -134,6 +139,7 @@ check_datapoint-told = record {
 
 pub hierarchy-told : FormTold (what.Reserved words.Hierarchy) c.hierarchy
 hierarchy-told = record {
+  low = lit< tt;
   tells = λ v p.
       let w : Text = v.1.1.1.0.value in
       let q : Place = v.1.1.1.0.place in
@@ -152,6 +158,7 @@ component-told = behind-told (key words.Rule) name (λ w. w.value) k.name same_w
 
 pub check_hierarchy-told : FormTold (what.Reserved words.CheckHierarchy) c.check_hierarchy
 check_hierarchy-told = record {
+  low = lit< tt;
   tells = λ v p.
       let w : Text = v.1.1.1.0.value in
       let q : Place = v.1.1.1.0.place in
@@ -176,6 +183,7 @@ imbalance-told = behind-told (key words.Imbalance) (expr 0) (λ e. e) spelled pl
 
 pub check-told : FormTold (what.Reserved words.Check) c.check
 check-told = record {
+  low = lit< tt;
   tells = λ v p.
       let x = v.1.1 in (
         folded-Check spelling v.1.0 (option_map (λ w. w.1.value) x.0) (option_map (λ w. g.signed_of w.1) x.1.0) (option_map second x.1.1.0) (option_map c.check_output_of x.1.1.1.0) p

@@ -18,7 +18,7 @@ use Rattle.vtl_syntax.specs.declared.expr.Grouping.{Grouping}
 use Rattle.vtl_syntax.specs.declared.expr.Rename.{Rename}
 use Rattle.vtl_syntax.specs.declared.expr.SubItem.{SubItem}
 use Rattle.vtl_grammar.specs.Marks.{key, sign}
-use Rattle.vtl_grammar.specs.Rules.{Rule, ◌▸◌, either, lists, Of, word, expr, listed, Slot, filtering, calculating, keeping, renaming}
+use Rattle.vtl_grammar.specs.Rules.{Rule, ◌▸◌, either, lists, Of, word, expr, listed, JoinPart, filtering, calculating, keeping, renaming}
 use Rattle.vtl_grammar.specs.Clauses as g
 use Rattle.vtl_spelling.specs.Kinds.{Kinds, ◌&◌, one, optional, separated}
 use Rattle.vtl_spelling.specs.Kinds as k
@@ -172,8 +172,8 @@ keeping-told = record { tells = by_case }
     by_case (inl v) = keep-told.tells v
     by_case (inr v) = drop-told.tells v
 
-pub slot-told : (q : Slot) → ClauseTold (g.slot_rule q) (λ v. g.slot_tree q v)
-slot-told filtering = filter-told
-slot-told calculating = calc-told
-slot-told keeping = keeping-told
-slot-told renaming = rename-told
+pub join_part-told : (q : JoinPart) → ClauseTold (g.join_part_rule q) (λ v. g.join_part_tree q v)
+join_part-told filtering = filter-told
+join_part-told calculating = calc-told
+join_part-told keeping = keeping-told
+join_part-told renaming = rename-told

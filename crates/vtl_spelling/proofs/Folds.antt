@@ -44,7 +44,10 @@ use Rattle.vtl_syntax.specs.declared.words.HierarchyInput.{HierarchyInput}
 use Rattle.vtl_syntax.specs.declared.words.HierarchyOutput.{HierarchyOutput}
 use Rattle.vtl_syntax.specs.declared.words.CheckInput.{CheckInput}
 use Rattle.vtl_syntax.specs.declared.words.ItemRole.{ItemRole}
-use Rattle.vtl_spelling.proofs.Maps.{maps-Substr, maps-Replace, maps-Join, maps-Aggregate, maps-Check, clause_maps-Aggr, groups_maps, range_maps}
+use Rattle.vtl_syntax.specs.declared.words.TimeFunction.{TimeFunction}
+use Rattle.vtl_syntax.specs.declared.words.FillSpan.{FillSpan}
+use Rattle.vtl_syntax.specs.declared.words.Sort.{Sort}
+use Rattle.vtl_syntax.proofs.Maps.{maps-Substr, maps-Replace, maps-Join, maps-Aggregate, maps-Check, clause_maps-Aggr, groups_maps, range_maps}
 
 -- a step for each kind of tree, where each part has its answer
 pub record Steps : Type 1 where
@@ -185,6 +188,21 @@ module _ (s : Steps) where
 
   pub folded-Check : (x0 : Expr) (x1 : Option (List ℕ)) (x2 : Option ℤ) (x3 : Option Expr) (x4 : Option CheckOutput) (p : Place) → expr (tree.Check x0 x1 x2 x3 x4 p) ≡ s.of_expr (Expr-F.Check (expr x0) x1 x2 (option_map expr x3) x4 p)
   folded-Check x0 x1 x2 x3 x4 p = rolled (Expr-F.Check x0 x1 x2 x3 x4 p) (tree.rolls-Check x0 x1 x2 x3 x4 p) ∙ ap s.of_expr (maps-Check Clause Expr Groups Item JoinOperand SubstrRange s.A s.B s.C s.D s.E s.F clause expr groups item operand range x0 x1 x2 x3 x4 p)
+
+  pub folded-Time : (x0 : TimeFunction) (x1 : Expr) (p : Place) → expr (tree.Time x0 x1 p) ≡ s.of_expr (Expr-F.Time x0 (expr x1) p)
+  folded-Time x0 x1 p = rolled (Expr-F.Time x0 x1 p) (tree.rolls-Time x0 x1 p)
+
+  pub folded-Timeshift : (x0 : Expr) (x1 : ℤ) (p : Place) → expr (tree.Timeshift x0 x1 p) ≡ s.of_expr (Expr-F.Timeshift (expr x0) x1 p)
+  folded-Timeshift x0 x1 p = rolled (Expr-F.Timeshift x0 x1 p) (tree.rolls-Timeshift x0 x1 p)
+
+  pub folded-FillTimeSeries : (x0 : Expr) (x1 : Option FillSpan) (p : Place) → expr (tree.FillTimeSeries x0 x1 p) ≡ s.of_expr (Expr-F.FillTimeSeries (expr x0) x1 p)
+  folded-FillTimeSeries x0 x1 p = rolled (Expr-F.FillTimeSeries x0 x1 p) (tree.rolls-FillTimeSeries x0 x1 p)
+
+  pub folded-CallOf : (x0 : List ℕ) (x1 : List Expr) (p : Place) → expr (tree.CallOf x0 x1 p) ≡ s.of_expr (Expr-F.CallOf x0 (map expr x1) p)
+  folded-CallOf x0 x1 p = rolled (Expr-F.CallOf x0 x1 p) (tree.rolls-CallOf x0 x1 p)
+
+  pub folded-Typed : (x0 : Sort) (x1 : Expr) (p : Place) → expr (tree.Typed x0 x1 p) ≡ s.of_expr (Expr-F.Typed x0 (expr x1) p)
+  folded-Typed x0 x1 p = rolled (Expr-F.Typed x0 x1 p) (tree.rolls-Typed x0 x1 p)
 
   pub clause_folded-Filter : (x0 : Expr) (p : Place) → clause (clause_tree.Filter x0 p) ≡ s.of_clause (Clause-F.Filter (expr x0) p)
   clause_folded-Filter x0 p = clause_rolled (Clause-F.Filter x0 p) (clause_tree.rolls-Filter x0 p)

@@ -13,10 +13,11 @@ use Rattle.vtl_syntax.specs.declared.words.JoinFunction.TheVariants as join_word
 use Rattle.vtl_syntax.specs.declared.words.AggregateFunction.TheVariants as aggregate_word
 use Rattle.vtl_syntax.specs.declared.words.WindowFunction.TheVariants as window_word
 use Rattle.vtl_syntax.specs.declared.words.OffsetFunction.TheVariants as offset_word
+use Rattle.vtl_syntax.specs.declared.words.TimeFunction.TheVariants as time_word
 use Rattle.vtl_grammar.specs.Marks.{Mark, key, sign, kind_of}
 use Rattle.vtl_grammar.specs.Calls.{Form}
 use Rattle.vtl_grammar.specs.Forms.{form_of}
-use Rattle.vtl_spelling.proofs.FormsTold.{FormTold, conditional-told, bracket-told, signed_form-told, unary-told, round-told, binary-told, between-told, match_characters-told, substr-told, replace-told, exists_in-told, sets-told, difference-told}
+use Rattle.vtl_spelling.proofs.FormsTold.{FormTold, conditional-told, bracket-told, signed_form-told, unary-told, round-told, binary-told, between-told, match_characters-told, substr-told, replace-told, exists_in-told, sets-told, difference-told, time-told, timeshift-told, fill_time_series-told}
 use Rattle.vtl_spelling.proofs.CallsTold.{join-told, aggregate-told, count-told, window-told, offset-told, rank-told, check_datapoint-told, hierarchy-told, check_hierarchy-told, check-told}
 
 abbrev SomeForm : TokenKind → Option Form → Type 0
@@ -69,6 +70,11 @@ each_form (key words.RatioToReport) = window-told window_word.RatioToReport
 each_form (key words.Lag) = offset-told offset_word.Lag
 each_form (key words.Lead) = offset-told offset_word.Lead
 each_form (key words.Rank) = rank-told
+each_form (key words.FlowToStock) = time-told time_word.FlowToStock
+each_form (key words.StockToFlow) = time-told time_word.StockToFlow
+each_form (key words.PeriodIndicator) = time-told time_word.PeriodIndicator
+each_form (key words.Timeshift) = timeshift-told
+each_form (key words.FillTimeSeries) = fill_time_series-told
 each_form (key words.CheckDatapoint) = check_datapoint-told
 each_form (key words.Hierarchy) = hierarchy-told
 each_form (key words.CheckHierarchy) = check_hierarchy-told

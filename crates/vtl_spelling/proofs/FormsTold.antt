@@ -1,6 +1,6 @@
 -- Forms of expressions that begin with a word of their own, as their rules tell them: signs, scalar functions, sets and
 -- joins.
-use Rattle.std.proofs.Common.{◌≡◌, ℕ, List, ◌∷◌, Option, Some, None, inl, inr, sym, ap, ◌∙◌, map, append_assoc}
+use Rattle.std.proofs.Common.{◌≡◌, ℕ, ◌<◌, lit<, List, ◌∷◌, Option, Some, None, inl, inr, sym, ap, ◌∙◌, map, append_assoc}
 use Rattle.std.proofs.Math.Path.{ap₂}
 use Rattle.std.specs.Prelude.{ℤ, option_map}
 use Rattle.std.specs.List.{flat_map}
@@ -23,49 +23,53 @@ use Rattle.vtl_syntax.specs.declared.words.BinaryFunction.{BinaryFunction}
 use Rattle.vtl_syntax.specs.declared.words.ExistsRows.{ExistsRows}
 use Rattle.vtl_syntax.specs.declared.words.SetFunction.{SetFunction}
 use Rattle.vtl_syntax.specs.declared.words.DifferenceFunction.{DifferenceFunction}
+use Rattle.vtl_syntax.specs.declared.words.TimeFunction.{TimeFunction}
+use Rattle.vtl_syntax.specs.declared.words.FillSpan.{FillSpan}
 use Rattle.vtl_grammar.specs.Marks.{key, sign}
-use Rattle.vtl_grammar.specs.Rules.{name, part, clause, Slot, ◌▸◌, Of, word, expr, comma}
+use Rattle.vtl_grammar.specs.Rules.{name, part, clause, JoinPart, ◌▸◌, Of, word, expr, comma}
 use Rattle.vtl_grammar.specs.Clauses as g
 use Rattle.vtl_grammar.specs.Calls as c
 use Rattle.vtl_grammar.specs.Calls.{Form, second}
-use Rattle.vtl_grammar.specs.Forms.{conditional, bracket, signed_form}
+use Rattle.vtl_grammar.specs.Forms.{top, conditional, bracket, signed_form}
 use Rattle.vtl_spelling.specs.Kinds.{Kinds, ◌&◌, one, optional}
 use Rattle.vtl_spelling.specs.Kinds as k
-use Rattle.vtl_spelling.specs.Words.{prefix_kind, unary_kind, round_kind, binary_kind, exists_rows_kind, set_kind, difference_kind}
+use Rattle.vtl_spelling.specs.Words.{prefix_kind, unary_kind, round_kind, binary_kind, exists_rows_kind, set_kind, difference_kind, time_kind, fill_span_kind}
 use Rattle.vtl_spelling.specs.Trees.{spelled, clause_spelled, operand_spelled}
 use Rattle.vtl_spelling.specs.Placeless.{nowhere, placeless, operand_placeless}
-use Rattle.vtl_spelling.proofs.Folds.{operand_folded, range_folded, folded-If, folded-Bracket, folded-Signed, folded-Unary, folded-Round, folded-Binary, folded-Between, folded-MatchCharacters, folded-Substr, folded-Replace, folded-ExistsIn, folded-Sets, folded-Difference}
+use Rattle.vtl_spelling.proofs.Folds.{operand_folded, range_folded, folded-If, folded-Bracket, folded-Signed, folded-Unary, folded-Round, folded-Binary, folded-Between, folded-MatchCharacters, folded-Substr, folded-Replace, folded-ExistsIn, folded-Sets, folded-Difference, folded-Time, folded-Timeshift, folded-FillTimeSeries}
 use Rattle.vtl_spelling.proofs.Values.{value_spelled, value_placeless}
 use Rattle.vtl_spelling.proofs.Told.{Told, same_word, behind-told, optional-told, option-plain, option-same, map-told, map-plain}
-use Rattle.vtl_spelling.proofs.WordsTold.{exists_rows-told}
+use Rattle.vtl_spelling.proofs.WordsTold.{exists_rows-told, fill_span-told}
 use Rattle.vtl_spelling.proofs.PartsTold.{signed_integer-told, literal-told, name-told}
 use Rattle.vtl_spelling.proofs.ClausesTold.{spelling, baring, optional-map, expr-told}
 
--- a form behind its word
+-- a form after its word, which has a lower precedence than a name
 pub record FormTold (w : TokenKind) (form : Form) : Type 0 where
   pub tells : (v : Of form.rule) (p : Place) → (spelled (form.tree v p) ≡ w ∷ value_spelled form.rule v) × (placeless (form.tree v p) ≡ form.tree (value_placeless form.rule v) nowhere)
+  pub low : form.precedence < top
 
 -- ---- signs and brackets
 
 pub conditional-told : FormTold (what.Reserved words.If) conditional
-conditional-told = record { tells = λ v p. (folded-If spelling v.0 v.1.1.0 v.1.1.1.1 p, folded-If baring v.0 v.1.1.0 v.1.1.1.1 p) }
+conditional-told = record { low = lit< tt; tells = λ v p. (folded-If spelling v.0 v.1.1.0 v.1.1.1.1 p, folded-If baring v.0 v.1.1.0 v.1.1.1.1 p) }
 
 pub bracket-told : FormTold (what.Sign signs.LeftParen) bracket
-bracket-told = record { tells = λ v p. (folded-Bracket spelling v.0 p, folded-Bracket baring v.0 p) }
+bracket-told = record { low = lit< tt; tells = λ v p. (folded-Bracket spelling v.0 p, folded-Bracket baring v.0 p) }
 
 pub signed_form-told : (f : Prefix) → FormTold (prefix_kind f) (signed_form f)
-signed_form-told f = record { tells = λ v p. (folded-Signed spelling f v p, folded-Signed baring f v p) }
+signed_form-told f = record { low = lit< tt; tells = λ v p. (folded-Signed spelling f v p, folded-Signed baring f v p) }
 
 -- ---- scalar functions
 
 pub unary-told : (f : UnaryFunction) → FormTold (unary_kind f) (c.unary f)
-unary-told f = record { tells = λ v p. (folded-Unary spelling f v.1.0 p, folded-Unary baring f v.1.0 p) }
+unary-told f = record { low = lit< tt; tells = λ v p. (folded-Unary spelling f v.1.0 p, folded-Unary baring f v.1.0 p) }
 
 digits-told : Told (comma ▸ g.signed_integer) (λ w. g.signed_of w.1) (λ z. k.comma & k.signed_integer z) same_word
 digits-told = behind-told (sign signs.Comma) g.signed_integer g.signed_of k.signed_integer same_word signed_integer-told
 
 pub round-told : (f : RoundFunction) → FormTold (round_kind f) (c.round f)
 round-told f = record {
+  low = lit< tt;
   tells = λ v p. (
     folded-Round spelling f v.1.0 (option_map (λ w. g.signed_of w.1) v.1.1.0) p ∙ ap (λ (x : Kinds). one (round_kind f) & k.open_paren & spelled v.1.0 & x & k.close_paren) (optional-told _ _ _ _ digits-told v.1.1.0),
     folded-Round baring f v.1.0 (option_map (λ w. g.signed_of w.1) v.1.1.0) p ∙ ap (λ (x : Option ℤ). tree.Round f (placeless v.1.0) x nowhere) (option-same _ _ _ digits-told v.1.1.0),
@@ -73,10 +77,11 @@ round-told f = record {
 }
 
 pub binary-told : (f : BinaryFunction) → FormTold (binary_kind f) (c.binary f)
-binary-told f = record { tells = λ v p. (folded-Binary spelling f v.1.0 v.1.1.1.0 p, folded-Binary baring f v.1.0 v.1.1.1.0 p) }
+binary-told f = record { low = lit< tt; tells = λ v p. (folded-Binary spelling f v.1.0 v.1.1.1.0 p, folded-Binary baring f v.1.0 v.1.1.1.0 p) }
 
 pub between-told : FormTold (what.Reserved words.Between) c.between
 between-told = record {
+  low = lit< tt;
   tells = λ v p.
       let a = literal-told.tells v.1.1.1.0 in
       let b = literal-told.tells v.1.1.1.1.1.0 in (
@@ -86,7 +91,7 @@ between-told = record {
 }
 
 pub match_characters-told : FormTold (what.Reserved words.MatchCharacters) c.match_characters
-match_characters-told = record { tells = λ v p. (folded-MatchCharacters spelling v.1.0 v.1.1.1.0.value p, folded-MatchCharacters baring v.1.0 v.1.1.1.0.value p) }
+match_characters-told = record { low = lit< tt; tells = λ v p. (folded-MatchCharacters spelling v.1.0 v.1.1.1.0.value p, folded-MatchCharacters baring v.1.0 v.1.1.1.0.value p) }
 
 more-told : Told (comma ▸ expr 0) second (λ e. k.comma & spelled e) placeless
 more-told = behind-told (sign signs.Comma) (expr 0) (λ e. e) spelled placeless (expr-told 0)
@@ -96,7 +101,7 @@ one_more : (x : Option (Place × Expr)) → optional (λ (ks : Kinds). k.comma &
 one_more x = optional-map (λ (ks : Kinds). k.comma & ks) spelled (option_map second x) ∙ optional-told _ _ _ _ more-told x
 
 pub substr-told : FormTold (what.Reserved words.Substr) c.substr
-substr-told = record { tells = λ v p. by_case v.1.0 v.1.1 p }
+substr-told = record { low = lit< tt; tells = λ v p. by_case v.1.0 v.1.1 p }
   where
     by_case : (e : Expr) (v : Of c.substr_rest) (p : Place) → (spelled (tree.Substr e (c.range_of v) p) ≡ k.key words.Substr & k.open_paren & spelled e & value_spelled c.substr_rest v) × (placeless (tree.Substr e (c.range_of v) p) ≡ tree.Substr (placeless e) (c.range_of (value_placeless c.substr_rest v)) nowhere)
     by_case e (inl q) p = (folded-Substr spelling e None p, folded-Substr baring e None p)
@@ -112,9 +117,37 @@ substr-told = record { tells = λ v p. by_case v.1.0 v.1.1 p }
 
 pub replace-told : FormTold (what.Reserved words.Replace) c.replace
 replace-told = record {
+  low = lit< tt;
   tells = λ v p. (
     folded-Replace spelling v.1.0 v.1.1.1.0 (option_map second v.1.1.1.1.0) p ∙ ap (λ (x : Kinds). k.key words.Replace & k.open_paren & spelled v.1.0 & k.comma & spelled v.1.1.1.0 & x & k.close_paren) (one_more v.1.1.1.1.0),
     folded-Replace baring v.1.0 v.1.1.1.0 (option_map second v.1.1.1.1.0) p ∙ ap (λ (x : Option Expr). tree.Replace (placeless v.1.0) (placeless v.1.1.1.0) x nowhere) (option-plain _ _ _ _ more-told v.1.1.1.1.0),
+  );
+}
+
+-- ---- time periods
+
+pub time-told : (f : TimeFunction) → FormTold (time_kind f) (c.time f)
+time-told f = record { low = lit< tt; tells = λ v p. (folded-Time spelling f v.1.0 p, folded-Time baring f v.1.0 p) }
+
+pub timeshift-told : FormTold (what.Reserved words.Timeshift) c.timeshift
+timeshift-told = record {
+  low = lit< tt;
+  tells = λ v p.
+      let e = signed_integer-told.tells v.1.1.1.0 in (
+        folded-Timeshift spelling v.1.0 (g.signed_of v.1.1.1.0) p ∙ ap (λ (x : Kinds). k.key words.Timeshift & k.open_paren & spelled v.1.0 & k.comma & x & k.close_paren) e.0,
+        folded-Timeshift baring v.1.0 (g.signed_of v.1.1.1.0) p ∙ ap (λ (x : ℤ). tree.Timeshift (placeless v.1.0) x nowhere) e.1,
+      );
+}
+
+span-told : Told (comma ▸ c.fill_span_rule) (λ w. c.fill_span_of w.1) (λ w. k.comma & one (fill_span_kind w)) same_word
+span-told = behind-told (sign signs.Comma) c.fill_span_rule c.fill_span_of (λ w. one (fill_span_kind w)) same_word fill_span-told
+
+pub fill_time_series-told : FormTold (what.Reserved words.FillTimeSeries) c.fill_time_series
+fill_time_series-told = record {
+  low = lit< tt;
+  tells = λ v p. (
+    folded-FillTimeSeries spelling v.1.0 (option_map (λ w. c.fill_span_of w.1) v.1.1.0) p ∙ ap (λ (x : Kinds). k.key words.FillTimeSeries & k.open_paren & spelled v.1.0 & x & k.close_paren) (optional-told _ _ _ _ span-told v.1.1.0),
+    folded-FillTimeSeries baring v.1.0 (option_map (λ w. c.fill_span_of w.1) v.1.1.0) p ∙ ap (λ (x : Option FillSpan). tree.FillTimeSeries (placeless v.1.0) x nowhere) (option-same _ _ _ span-told v.1.1.0),
   );
 }
 
@@ -125,6 +158,7 @@ rows-told = behind-told (sign signs.Comma) c.exists_rows_rule c.exists_rows_of (
 
 pub exists_in-told : FormTold (what.Reserved words.ExistsIn) c.exists_in
 exists_in-told = record {
+  low = lit< tt;
   tells = λ v p. (
     folded-ExistsIn spelling v.1.0 v.1.1.1.0 (option_map (λ w. c.exists_rows_of w.1) v.1.1.1.1.0) p ∙ ap (λ (x : Kinds). k.key words.ExistsIn & k.open_paren & spelled v.1.0 & k.comma & spelled v.1.1.1.0 & x & k.close_paren) (optional-told _ _ _ _ rows-told v.1.1.1.1.0),
     folded-ExistsIn baring v.1.0 v.1.1.1.0 (option_map (λ w. c.exists_rows_of w.1) v.1.1.1.1.0) p ∙ ap (λ (x : Option ExistsRows). tree.ExistsIn (placeless v.1.0) (placeless v.1.1.1.0) x nowhere) (option-same _ _ _ rows-told v.1.1.1.1.0),
@@ -137,6 +171,7 @@ others xs = flat_map-map (λ (ks : Kinds). k.comma & ks) spelled (map second xs)
 
 pub sets-told : (f : SetFunction) → FormTold (set_kind f) (c.sets f)
 sets-told f = record {
+  low = lit< tt;
   tells = λ v p. (
     folded-Sets spelling f v.1.0 v.1.1.1.0.0 (map second v.1.1.1.0.1) p
         ∙ ap (λ (x : Kinds). one (set_kind f) & k.open_paren & spelled v.1.0 & k.comma & spelled v.1.1.1.0.0 & x & k.close_paren) (others v.1.1.1.0.1)
@@ -146,7 +181,7 @@ sets-told f = record {
 }
 
 pub difference-told : (f : DifferenceFunction) → FormTold (difference_kind f) (c.difference f)
-difference-told f = record { tells = λ v p. (folded-Difference spelling f v.1.0 v.1.1.1.0 p, folded-Difference baring f v.1.0 v.1.1.1.0 p) }
+difference-told f = record { low = lit< tt; tells = λ v p. (folded-Difference spelling f v.1.0 v.1.1.1.0 p, folded-Difference baring f v.1.0 v.1.1.1.0 p) }
 
 alias-told : Told (word words.As ▸ name) (λ w. w.1.value) (λ w. k.key words.As & k.name w) same_word
 alias-told = behind-told (key words.As) name (λ w. w.value) k.name same_word name-told
@@ -166,5 +201,5 @@ pub more_operands-told : Told (comma ▸ c.join_operand) (λ w. c.join_operand_o
 more_operands-told = behind-told (sign signs.Comma) c.join_operand c.join_operand_of operand_spelled operand_placeless operand-told
 
 -- a clause in a join, if it is there
-pub join_clause : (q : Slot) (x : Option Clause) → optional (λ (ks : Kinds). ks) (option_map clause_spelled x) ≡ optional (value_spelled (part (clause q))) x
+pub join_clause : (q : JoinPart) (x : Option Clause) → optional (λ (ks : Kinds). ks) (option_map clause_spelled x) ≡ optional (value_spelled (part (clause q))) x
 join_clause q x = optional-map (λ (ks : Kinds). ks) clause_spelled x

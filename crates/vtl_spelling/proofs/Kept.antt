@@ -20,8 +20,8 @@ use Rattle.vtl_spelling.specs.Words.{window_kind, offset_kind}
 use Rattle.vtl_spelling.specs.Parts.{names_spelled, comp_spelled, rename_spelled, sub_item_spelled, order_item_spelled, points_spelled, over_spelled}
 use Rattle.vtl_spelling.specs.Trees.{call, expr_step, clause_step, spelled, clause_spelled, groups_spelled, item_spelled, operand_spelled, range_spelled}
 use Rattle.vtl_spelling.specs.Placeless.{nowhere, comp_placeless, rename_placeless, sub_item_placeless, order_item_placeless, points_placeless, over_placeless, placeless, clause_placeless, groups_placeless, item_placeless, operand_placeless, range_placeless}
-use Rattle.vtl_spelling.proofs.Maps.{maps-Substr, maps-Replace, maps-Join, maps-Aggregate, maps-Check, clause_maps-Aggr}
-use Rattle.vtl_spelling.proofs.Folds.{folded-If, folded-Or, folded-And, folded-Compare, folded-In, folded-Sum, folded-Product, folded-Signed, folded-Member, folded-Clause, folded-Literal, folded-Name, folded-Bracket, folded-Unary, folded-Round, folded-Binary, folded-Between, folded-MatchCharacters, folded-Substr, folded-Replace, folded-ExistsIn, folded-Sets, folded-Difference, folded-Join, folded-Aggregate, folded-Window, folded-CountAll, folded-Offset, folded-Rank, folded-CheckDatapoint, folded-Hierarchy, folded-CheckHierarchy, folded-Check, clause_folded-Filter, clause_folded-Calc, clause_folded-Keep, clause_folded-Drop, clause_folded-Rename, clause_folded-Sub, clause_folded-Unpivot, clause_folded-Aggr}
+use Rattle.vtl_syntax.proofs.Maps.{maps-Substr, maps-Replace, maps-Join, maps-Aggregate, maps-Check, clause_maps-Aggr}
+use Rattle.vtl_spelling.proofs.Folds.{folded-If, folded-Or, folded-And, folded-Compare, folded-In, folded-Sum, folded-Product, folded-Signed, folded-Member, folded-Clause, folded-Literal, folded-Name, folded-Bracket, folded-Unary, folded-Round, folded-Binary, folded-Between, folded-MatchCharacters, folded-Substr, folded-Replace, folded-ExistsIn, folded-Sets, folded-Difference, folded-Join, folded-Aggregate, folded-Window, folded-CountAll, folded-Offset, folded-Rank, folded-CheckDatapoint, folded-Hierarchy, folded-CheckHierarchy, folded-Check, folded-Time, folded-Timeshift, folded-FillTimeSeries, folded-CallOf, folded-Typed, clause_folded-Filter, clause_folded-Calc, clause_folded-Keep, clause_folded-Drop, clause_folded-Rename, clause_folded-Sub, clause_folded-Unpivot, clause_folded-Aggr}
 use Rattle.vtl_spelling.proofs.Told.{ap_three, ap_four}
 use Rattle.vtl_spelling.proofs.ClausesTold.{spelling, baring, separated-map}
 
@@ -185,6 +185,21 @@ expr_kept (Expr-F.CheckHierarchy x0 x1 x2 x3 x4 x5 x6 p) =
 expr_kept (Expr-F.Check x0 x1 x2 x3 x4 p) =
     expr_kept_rolled (maps-Check ClauseSuch ExprSuch GroupsSuch ItemSuch OperandSuch RangeSuch Clause Expr Groups Item JoinOperand SubstrRange fst fst fst fst fst fst x0 x1 x2 x3 x4 p) (tree.rolls-Check x0.0 x1 x2 (option_map fst x3) x4 p)
     (expr_kept_back (tree.Check x0.0 x1 x2 (option_map fst x3) x4 p) (folded-Check baring x0.0 x1 x2 (option_map fst x3) x4 p) (folded-Check spelling (placeless x0.0) x1 x2 (option_map placeless (option_map fst x3)) x4 nowhere) (ap₂ (λ (y0 : Kinds) (y3 : Option Kinds). expr_step (Expr-F.Check y0 x1 x2 y3 x4 p)) x0.1 (option-kept placeless spelled x3)) (folded-Check spelling x0.0 x1 x2 (option_map fst x3) x4 p))
+expr_kept (Expr-F.Time x0 x1 p) =
+    expr_kept_rolled refl (tree.rolls-Time x0 x1.0 p)
+    (expr_kept_back (tree.Time x0 x1.0 p) (folded-Time baring x0 x1.0 p) (folded-Time spelling x0 (placeless x1.0) nowhere) (ap (λ (y1 : Kinds). expr_step (Expr-F.Time x0 y1 p)) x1.1) (folded-Time spelling x0 x1.0 p))
+expr_kept (Expr-F.Timeshift x0 x1 p) =
+    expr_kept_rolled refl (tree.rolls-Timeshift x0.0 x1 p)
+    (expr_kept_back (tree.Timeshift x0.0 x1 p) (folded-Timeshift baring x0.0 x1 p) (folded-Timeshift spelling (placeless x0.0) x1 nowhere) (ap (λ (y0 : Kinds). expr_step (Expr-F.Timeshift y0 x1 p)) x0.1) (folded-Timeshift spelling x0.0 x1 p))
+expr_kept (Expr-F.FillTimeSeries x0 x1 p) =
+    expr_kept_rolled refl (tree.rolls-FillTimeSeries x0.0 x1 p)
+    (expr_kept_back (tree.FillTimeSeries x0.0 x1 p) (folded-FillTimeSeries baring x0.0 x1 p) (folded-FillTimeSeries spelling (placeless x0.0) x1 nowhere) (ap (λ (y0 : Kinds). expr_step (Expr-F.FillTimeSeries y0 x1 p)) x0.1) (folded-FillTimeSeries spelling x0.0 x1 p))
+expr_kept (Expr-F.CallOf x0 x1 p) =
+    expr_kept_rolled refl (tree.rolls-CallOf x0 (map fst x1) p)
+    (expr_kept_back (tree.CallOf x0 (map fst x1) p) (folded-CallOf baring x0 (map fst x1) p) (folded-CallOf spelling x0 (map placeless (map fst x1)) nowhere) (ap (λ (y1 : List Kinds). expr_step (Expr-F.CallOf x0 y1 p)) (list-kept placeless spelled x1)) (folded-CallOf spelling x0 (map fst x1) p))
+expr_kept (Expr-F.Typed x0 x1 p) =
+    expr_kept_rolled refl (tree.rolls-Typed x0 x1.0 p)
+    (expr_kept_back (tree.Typed x0 x1.0 p) (folded-Typed baring x0 x1.0 p) (folded-Typed spelling x0 (placeless x1.0) nowhere) x1.1 (folded-Typed spelling x0 x1.0 p))
 
 -- ---- clauses
 

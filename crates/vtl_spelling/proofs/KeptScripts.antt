@@ -9,16 +9,19 @@ use Rattle.vtl_syntax.specs.declared.ruleset.Ruleset.TheVariants as kind
 use Rattle.vtl_syntax.specs.declared.ruleset.Variable.{Variable}
 use Rattle.vtl_syntax.specs.declared.ruleset.DatapointRule.{DatapointRule}
 use Rattle.vtl_syntax.specs.declared.ruleset.HierarchyRule.{HierarchyRule}
+use Rattle.vtl_syntax.specs.declared.operator.DefinedOperator.{DefinedOperator}
 use Rattle.vtl_syntax.specs.declared.script.Statement.{Statement}
 use Rattle.vtl_syntax.specs.declared.script.Script.{Script}
 use Rattle.vtl_tokens.specs.declared.keyword.Keyword.TheVariants as words
 use Rattle.vtl_spelling.specs.Kinds.{Kinds, ◌&◌, one, key, name, optional, separated, comma}
 use Rattle.vtl_spelling.specs.Words.{relation_kind, sign_kind}
 use Rattle.vtl_spelling.specs.Rulesets.{semicolon, variable_spelled, label, condition_spelled, fault_spelled, signed_name_spelled, datapoint_rule_spelled, hierarchy_rule_spelled, ruleset_spelled}
+use Rattle.vtl_spelling.specs.Operators.{param_spelled, returns_spelled, operator_spelled}
 use Rattle.vtl_spelling.specs.Scripts.{arrow, statement_spelled, script_spelled}
-use Rattle.vtl_spelling.specs.Placeless.{placeless, variable_placeless, signed_name_placeless, datapoint_rule_placeless, hierarchy_rule_placeless, ruleset_placeless, statement_placeless, script_placeless, IsSameButPlaces}
+use Rattle.vtl_spelling.specs.Placeless.{placeless, variable_placeless, signed_name_placeless, datapoint_rule_placeless, hierarchy_rule_placeless, ruleset_placeless, param_placeless, operator_placeless, statement_placeless, script_placeless, IsSameButPlaces}
 use Rattle.vtl_spelling.proofs.Told.{next}
 use Rattle.vtl_spelling.proofs.RulesetsTold.{datapoint_spelled, hierarchy_spelled}
+use Rattle.vtl_spelling.proofs.OperatorsTold.{defined_of}
 use Rattle.vtl_spelling.proofs.KeptTrees.{spelled-placeless}
 
 module _ {A : Type 0} (plain : A → A) (spell : A → Kinds) (kept : (x : A) → spell (plain x) ≡ spell x) where
@@ -58,13 +61,18 @@ ruleset-kept : (r : Ruleset) → ruleset_spelled (ruleset_placeless r) ≡ rules
 ruleset-kept (kind.Datapoint d) = ap₂ (λ (x y : Kinds). key words.Define & datapoint_spelled (name d.name) x y & semicolon) (variables-kept d.variables) (separated-kept datapoint_rule_placeless datapoint_rule_spelled datapoint_rule-kept semicolon d.rules)
 ruleset-kept (kind.Hierarchy h) = ap₂ (λ (x y : Kinds). key words.Define & hierarchy_spelled (name h.name) x (name h.component) y & semicolon) (conditions-kept h.variables) (separated-kept hierarchy_rule_placeless hierarchy_rule_spelled hierarchy_rule-kept semicolon h.rules)
 
+-- ---- defined operators
+
+operator-kept : (o : DefinedOperator) → operator_spelled (operator_placeless o) ≡ operator_spelled o
+operator-kept o = ap₂ (λ (x y : Kinds). key words.Define & defined_of (name o.name) x (optional returns_spelled o.returns) y & semicolon) (separated-kept param_placeless param_spelled (λ p. refl) comma o.params) (spelled-placeless o.body)
+
 -- ---- scripts
 
 statement-kept : (s : Statement) → statement_spelled (statement_placeless s) ≡ statement_spelled s
 statement-kept s = ap (λ (k : Kinds). name s.name & arrow s.persistent & k & semicolon) (spelled-placeless s.expr)
 
 script-kept : (s : Script) → script_spelled (script_placeless s) ≡ script_spelled s
-script-kept s = next (each-kept ruleset_placeless ruleset_spelled ruleset-kept s.rulesets) (each-kept statement_placeless statement_spelled statement-kept s.statements)
+script-kept s = next (each-kept operator_placeless operator_spelled operator-kept s.operators) (next (each-kept ruleset_placeless ruleset_spelled ruleset-kept s.rulesets) (each-kept statement_placeless statement_spelled statement-kept s.statements))
 
 -- scripts that are the same but for places are spelled the same
 pub same-spelled : (s t : Script) → IsSameButPlaces s t → script_spelled s ≡ script_spelled t

@@ -12,7 +12,7 @@ use Rattle.vtl_syntax.specs.declared.expr.Clause.TheOpen.{Expr-F, Clause-F, Grou
 use Rattle.vtl_spelling.specs.Kinds.{Kinds}
 use Rattle.vtl_spelling.specs.Trees.{groups_step, item_step, operand_step, range_step, spelled, groups_spelled, item_spelled, operand_spelled, range_spelled}
 use Rattle.vtl_spelling.specs.Placeless.{nowhere, grouping_placeless, placeless, groups_placeless, item_placeless, operand_placeless, range_placeless}
-use Rattle.vtl_spelling.proofs.Maps.{groups_maps, range_maps}
+use Rattle.vtl_syntax.proofs.Maps.{groups_maps, range_maps}
 use Rattle.vtl_spelling.proofs.Folds.{groups_folded, item_folded, operand_folded, range_folded}
 use Rattle.vtl_spelling.proofs.ClausesTold.{spelling, baring}
 use Rattle.vtl_spelling.proofs.Kept.{ClauseSuch, ExprSuch, GroupsSuch, ItemSuch, OperandSuch, RangeSuch, fst, option-kept, ExprKept, ClauseKept, expr_kept, clause_kept}

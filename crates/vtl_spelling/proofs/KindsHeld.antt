@@ -10,25 +10,25 @@ use Rattle.vtl_tokens.specs.declared.token.TokenKind.{TokenKind}
 use Rattle.vtl_tokens.specs.declared.token.TokenKind.TheVariants as what
 use Rattle.vtl_syntax.specs.declared.script.Script.{Script}
 use Rattle.vtl_grammar.specs.Marks.{Mark, key, sign, Tokens, at, kind_of}
-use Rattle.vtl_grammar.specs.Rules.{Counts, Rule, mark, name, integer, number, text, part, ◌▸◌, option, suffix, either, repeated, prefixed, here, Part, expression, clause, label, component, statements, rulesets, Of, Spells, SpellsMore}
-use Rattle.vtl_grammar.specs.Clauses.{signed, slot_rule, slot_tree}
+use Rattle.vtl_grammar.specs.Rules.{Counts, Rule, mark, name, integer, number, text, part, ◌▸◌, option, suffix, either, repeated, prefixed, here, Part, expression, clause, label, component, Of, Spells, SpellsMore}
+use Rattle.vtl_grammar.specs.Clauses.{signed, join_part_rule, join_part_tree}
 use Rattle.vtl_grammar.specs.Forms.{leaf_in}
 use Rattle.vtl_grammar.specs.Expressions.{Spelled, IsLeaf, IsForm, IsTailed, IsPart}
-use Rattle.vtl_grammar.specs.Rulesets.{ruleset_rule, ruleset_of}
-use Rattle.vtl_grammar.specs.Scripts.{statement_rule, statement_of, Piece, IsPieces, script_of, language, LEVELS, IsScript}
+use Rattle.vtl_grammar.specs.Scripts.{PieceKind, a_statement, a_ruleset, an_operator, piece_rule, OfKind, piece_tree, Piece, of_kind, all_of_kind, IsPieces, script_of, language, LEVELS, IsScript}
 use Rattle.vtl_spelling.specs.Kinds.{Kinds, ◌&◌, one, optional}
 use Rattle.vtl_spelling.specs.Trees.{spelled, clause_spelled}
 use Rattle.vtl_spelling.specs.Rulesets.{ruleset_spelled}
+use Rattle.vtl_spelling.specs.Operators.{operator_spelled}
 use Rattle.vtl_spelling.specs.Scripts.{statement_spelled, script_spelled}
-use Rattle.vtl_spelling.specs.Placeless.{clause_placeless, ruleset_placeless, statement_placeless}
+use Rattle.vtl_spelling.specs.Placeless.{clause_placeless}
 use Rattle.vtl_spelling.specs.Laws.{kinds_of}
 use Rattle.vtl_spelling.proofs.Values.{number_formed, minus_of, size_of, part_spelled, value_spelled}
 use Rattle.vtl_spelling.proofs.Told.{Told}
-use Rattle.vtl_spelling.proofs.ClausesTold.{slot-told}
+use Rattle.vtl_spelling.proofs.ClausesTold.{join_part-told}
 use Rattle.vtl_spelling.proofs.FormTable.{form-told}
 use Rattle.vtl_spelling.proofs.TailsTold.{tail-told}
-use Rattle.vtl_spelling.proofs.RulesetsTold.{ruleset-told, statement-told}
-use Rattle.vtl_spelling.proofs.PartRetold.{leaf_there, each_leaf}
+use Rattle.vtl_spelling.proofs.PiecesTold.{piece_spelled, piece_placeless, piece-told}
+use Rattle.vtl_spelling.proofs.PartRetold.{leaf_there, each_leaf, part-operand}
 
 -- it holds of each word and sign, and of no number with a minus in it
 pub record IsPlain (P : TokenKind → Type 0) : Type 0 where
@@ -134,8 +134,8 @@ module _ (P : TokenKind → Type 0) (plain : IsPlain P) where
 
   -- ---- expressions
 
-  leaf-held : Held spelled IsLeaf
-  leaf-held e us (t, is, parts) x =
+  leaf-held : (m : ℕ) → Held spelled (λ e us. IsLeaf m e us)
+  leaf-held m e us (t, is, high, parts) x =
       let k = leaf_there t.what (leaf_in t.what t.place) (leaf_in t.what t.place) (each_leaf t.what t.place t.place) e is in
       subst (λ (ks : Kinds). Each P ks) (sym k.2) (subst Holds parts x)
 
@@ -143,15 +143,15 @@ module _ (P : TokenKind → Type 0) (plain : IsPlain P) where
     form-held : (m : ℕ) → Held spelled (λ e us. IsForm L (IsPart L d) m e us)
     form-held m e us f x =
         let told = (form-told f.begins f.form f.of_mark).tells f.value f.place in
-        let y : Holds (at (kind_of f.begins) f.place ∷ f.behind) = subst Holds f.tokens x in
-        subst (λ (ks : Kinds). Each P ks) (sym (ap spelled f.is ∙ told.0)) (y.0, rule-held L (IsPart L d) inner f.form.rule f.value f.behind f.spelled y.1)
+        let y : Holds (at (kind_of f.begins) f.place ∷ f.after) = subst Holds f.tokens x in
+        subst (λ (ks : Kinds). Each P ks) (sym (ap spelled f.is ∙ told.0)) (y.0, rule-held L (IsPart L d) inner f.form.rule f.value f.after f.spelled y.1)
 
     tailed-held : (m : ℕ) → Held spelled (λ e us. IsTailed L (IsPart L d) m e us)
     tailed-held m e us f x =
-        let told = (tail-told f.begins f.tail f.of_mark).tells f.left f.value f.place in
-        let y : Holds (at (kind_of f.begins) f.place ∷ f.behind) = back-of us f.front (at (kind_of f.begins) f.place ∷ f.behind) f.tokens x in
-        let left = inner (expression f.tail.level) f.left f.front f.left_spelled (front-of us f.front (at (kind_of f.begins) f.place ∷ f.behind) f.tokens x) in
-        let right = rule-held L (IsPart L d) inner f.tail.rule f.value f.behind f.spelled y.1 in
+        let told = (tail-told f.begins f.tail f.of_mark).tells f.left (part-operand L d f.tail.operand f.left f.front f.left_spelled) f.value f.place in
+        let y : Holds (at (kind_of f.begins) f.place ∷ f.after) = back-of us f.front (at (kind_of f.begins) f.place ∷ f.after) f.tokens x in
+        let left = inner (expression f.tail.operand) f.left f.front f.left_spelled (front-of us f.front (at (kind_of f.begins) f.place ∷ f.after) f.tokens x) in
+        let right = rule-held L (IsPart L d) inner f.tail.rule f.value f.after f.spelled y.1 in
         subst (λ (ks : Kinds). Each P ks) (sym (ap spelled f.is ∙ told.0)) (joined (spelled f.left) (kind_of f.begins ∷ value_spelled f.tail.rule f.value) left (y.0, right))
 
     -- what is made of what a rule stands for
@@ -159,33 +159,35 @@ module _ (P : TokenKind → Type 0) (plain : IsPlain P) where
     made-held g make spell bare told e us (v, is, s) x = subst (λ (ks : Kinds). Each P ks) (sym (ap spell is ∙ (told.tells v).0)) (rule-held L (IsPart L d) inner g v us s x)
 
   part-held : (L : Counts) (d : ℕ) (q : Part) → Held (part_spelled q) (λ e us. IsPart L d q e us)
-  part-held L zero (expression m) e us s x = leaf-held e us s x
+  part-held L zero (expression m) e us s x = leaf-held m e us s x
   part-held L zero (clause k) e us s x = absurd s
-  part-held L (suc d) (expression m) e us (inl s) x = leaf-held e us s x
+  part-held L (suc d) (expression m) e us (inl s) x = leaf-held m e us s x
   part-held L (suc d) (expression m) e us (inr (inl s)) x = form-held L d (λ q v a t y. part-held L d q v a t y) m e us s x
   part-held L (suc d) (expression m) e us (inr (inr s)) x = tailed-held L d (λ q v a t y. part-held L d q v a t y) m e us s x
-  part-held L (suc d) (clause k) e us s x = made-held L d (λ q v a t y. part-held L d q v a t y) (slot_rule k) (λ v. slot_tree k v) clause_spelled clause_placeless (slot-told k) e us s x
+  part-held L (suc d) (clause k) e us s x = made-held L d (λ q v a t y. part-held L d q v a t y) (join_part_rule k) (λ v. join_part_tree k v) clause_spelled clause_placeless (join_part-told k) e us s x
 
   -- ---- scripts
 
-  abbrev PiecesHeld : List Piece → Type 0
-  PiecesHeld ps = Each P (flat_map ruleset_spelled (script_of ps).rulesets) × Each P (flat_map statement_spelled (script_of ps).statements)
+  abbrev EachOfKind : (k : PieceKind) → List (OfKind k) → Type 0
+  EachOfKind k xs = Each P (flat_map (λ x. piece_spelled k x) xs)
 
-  pieces-held : (L : Counts) (d n k : ℕ) (ps : List Piece) (us : Tokens) → IsPieces L d n k ps us → Holds us → PiecesHeld ps
-  pieces-held L d n k [] us s x = (tt, tt)
-  pieces-held L d zero k (inl v ∷ ps) us s x = absurd s
-  pieces-held L d (suc n) k (inl v ∷ ps) us (a, b, parts, s, rest) x =
-      let q = pieces-held L d n k ps b rest (back-of us a b parts x) in
-      let first = made-held L d (part-held L d) statement_rule statement_of statement_spelled statement_placeless statement-told v a s (front-of us a b parts x) in
-      (q.0, joined (statement_spelled v) (flat_map statement_spelled (script_of ps).statements) first q.1)
-  pieces-held L d n zero (inr v ∷ ps) us s x = absurd s
-  pieces-held L d n (suc k) (inr v ∷ ps) us (a, b, parts, s, rest) x =
-      let q = pieces-held L d n k ps b rest (back-of us a b parts x) in
-      let first = made-held L d (part-held L d) ruleset_rule ruleset_of ruleset_spelled ruleset_placeless ruleset-told v a s (front-of us a b parts x) in
-      (joined (ruleset_spelled v) (flat_map ruleset_spelled (script_of ps).rulesets) first q.0, q.1)
+  one_more : (k : PieceKind) (p : Piece) (xs : List (OfKind k)) → Each P (piece_spelled p.0 p.1) → EachOfKind k xs → EachOfKind k (of_kind k p ++ xs)
+  one_more a_statement (a_statement, x) xs first rest = joined (statement_spelled x) (flat_map statement_spelled xs) first rest
+  one_more a_ruleset (a_ruleset, x) xs first rest = joined (ruleset_spelled x) (flat_map ruleset_spelled xs) first rest
+  one_more an_operator (an_operator, x) xs first rest = joined (operator_spelled x) (flat_map operator_spelled xs) first rest
+  one_more _ _ xs first rest = rest
+
+  pieces-held : (L : Counts) (d : ℕ) (k : PieceKind) (ps : List Piece) (us : Tokens) → IsPieces L d ps us → Holds us → EachOfKind k (all_of_kind k ps)
+  pieces-held L d k [] us s x = tt
+  pieces-held L d k ((j, e) ∷ ps) us (a, b, parts, s, rest) x =
+      let first = made-held L d (part-held L d) (piece_rule j) (λ v. piece_tree j v) (λ y. piece_spelled j y) (λ y. piece_placeless j y) (piece-told j) e a s (front-of us a b parts x) in
+      one_more k (j, e) (all_of_kind k ps) first (pieces-held L d k ps b rest (back-of us a b parts x))
 
   pub script-held : (s : Script) (us : Tokens) → IsScript s us → All P (kinds_of us) → All P (script_spelled s)
-  script-held s us (n, (ps, is, pieces)) x =
-      let q = pieces-held (language n) LEVELS (language n statements) (language n rulesets) ps us pieces (recursion_from_All P (kinds_of us) x) in
+  script-held s us (n, (ps, is, few, pieces)) x =
       let t = script_of ps in
-      All-from_recursion P (script_spelled s) (subst (λ (ks : Kinds). Each P ks) (sym (ap script_spelled is)) (joined (flat_map ruleset_spelled t.rulesets) (flat_map statement_spelled t.statements) q.0 q.1))
+      let held = λ (k : PieceKind). pieces-held (language n) LEVELS k ps us pieces (recursion_from_All P (kinds_of us) x) in
+      All-from_recursion P (script_spelled s)
+      (subst (λ (ks : Kinds). Each P ks) (sym (ap script_spelled is))
+      (joined (flat_map operator_spelled t.operators) (flat_map ruleset_spelled t.rulesets & flat_map statement_spelled t.statements) (held an_operator)
+      (joined (flat_map ruleset_spelled t.rulesets) (flat_map statement_spelled t.statements) (held a_ruleset) (held a_statement))))

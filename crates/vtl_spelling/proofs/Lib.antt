@@ -1,4 +1,3 @@
-pub mod Maps
 pub mod Folds
 pub mod Values
 pub mod Formed
@@ -13,6 +12,8 @@ pub mod TailsTold
 pub mod FormTable
 pub mod PartRetold
 pub mod RulesetsTold
+pub mod OperatorsTold
+pub mod PiecesTold
 pub mod ScriptRetold
 pub mod Kept
 pub mod KeptTrees

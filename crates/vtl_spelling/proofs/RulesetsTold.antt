@@ -17,10 +17,10 @@ use Rattle.vtl_syntax.specs.declared.ruleset.SignedName.{SignedName}
 use Rattle.vtl_syntax.specs.declared.ruleset.DatapointRule.{DatapointRule}
 use Rattle.vtl_syntax.specs.declared.ruleset.HierarchyRule.{HierarchyRule}
 use Rattle.vtl_grammar.specs.Marks.{key, sign}
-use Rattle.vtl_grammar.specs.Rules.{Rule, name, text, ◌▸◌, option, either, repeated, rules, lists, Of, At, Text, word, expr, commas, listed}
+use Rattle.vtl_grammar.specs.Rules.{Rule, name, text, ◌▸◌, option, repeated, rules, lists, Of, At, Text, word, expr, commas, listed}
 use Rattle.vtl_grammar.specs.Clauses.{signed_integer}
 use Rattle.vtl_grammar.specs.Rulesets as g
-use Rattle.vtl_grammar.specs.Scripts.{statement_rule, statement_of}
+use Rattle.vtl_grammar.specs.Scripts.{definition, statement_rule, statement_of}
 use Rattle.vtl_spelling.specs.Kinds.{Kinds, ◌&◌, one, optional}
 use Rattle.vtl_spelling.specs.Kinds as k
 use Rattle.vtl_spelling.specs.Words.{relation_kind, sign_kind}
@@ -154,10 +154,10 @@ hierarchy_rules-told p v =
       ap₂ (λ (y : Option (List Variable)) (z : List HierarchyRule). kind.Hierarchy (record { name = w; variables = y; component = c; rules = z; place = nowhere })) (option-plain _ _ _ _ conditions-told x.0) (listed-plain _ _ _ _ hierarchy_rule-told rules (sign signs.Semicolon) rs),
     )
 
-pub ruleset-told : Told g.ruleset_rule g.ruleset_of s.ruleset_spelled ruleset_placeless
+pub ruleset-told : Told (definition g.ruleset_rule) (λ v. g.ruleset_of v.0 v.1.0) s.ruleset_spelled ruleset_placeless
 ruleset-told = record { tells = λ v. by_case v.0 v.1.0 v.1.1 }
   where
-    by_case : (p : Place) (v : Of (either g.datapoint_rules g.hierarchy_rules)) (q : Place) → (s.ruleset_spelled (g.rules_of p v) ≡ value_spelled g.ruleset_rule (p, (v, q))) × (ruleset_placeless (g.rules_of p v) ≡ g.ruleset_of (value_placeless g.ruleset_rule (p, (v, q))))
+    by_case : (p : Place) (v : Of g.ruleset_rule) (q : Place) → (s.ruleset_spelled (g.ruleset_of p v) ≡ value_spelled (definition g.ruleset_rule) (p, (v, q))) × (ruleset_placeless (g.ruleset_of p v) ≡ g.ruleset_of nowhere (value_placeless g.ruleset_rule v))
     by_case p (inl v) q = let e = datapoint_rules-told p v in (ap (λ (ks : Kinds). k.key words.Define & ks & s.semicolon) e.0, e.1)
     by_case p (inr v) q = let e = hierarchy_rules-told p v in (ap (λ (ks : Kinds). k.key words.Define & ks & s.semicolon) e.0, e.1)
 

@@ -1,7 +1,6 @@
 -- The laws of spelling.
 use Rattle.std.proofs.Common.{◌≡◌, [], ◌∷◌, map, refl, sym, ap, ◌∙◌}
 use Rattle.vtl_grammar.specs.Marks.{Tokens, at}
-use Rattle.vtl_grammar.specs.Rules.{statements, rulesets}
 use Rattle.vtl_grammar.specs.Scripts.{language, LEVELS}
 use Rattle.vtl_spelling.specs.Kinds.{Kinds}
 use Rattle.vtl_spelling.specs.Scripts.{script_spelled}
@@ -11,8 +10,8 @@ use Rattle.vtl_spelling.proofs.KeptScripts.{same-spelled}
 use Rattle.vtl_spelling.proofs.ScriptRetold.{pieces-retold}
 
 pub spells_scripts : SpellsScripts
-spells_scripts s us (vs, (t, (n, (ps, is, pieces)), same)) kinds =
-    let q = pieces-retold (language n) LEVELS (language n statements) (language n rulesets) ps vs us pieces (kinds ∙ sym (same-spelled t s same) ∙ ap script_spelled is) in
+spells_scripts s us (vs, (t, (n, (ps, is, few, pieces)), same)) kinds =
+    let q = pieces-retold (language n) LEVELS ps vs us few pieces (kinds ∙ sym (same-spelled t s same) ∙ ap script_spelled is) in
     (q.0, (n, q.1), q.2 ∙ ap script_placeless (sym is) ∙ same)
 
 kinds_of-at : (ks : Kinds) → kinds_of (map (λ k. at k nowhere) ks) ≡ ks

@@ -19,10 +19,10 @@ use Rattle.vtl_tokens.specs.declared.keyword.Keyword.TheVariants as words
 use Rattle.vtl_syntax.specs.declared.words.SetFunction.{SetFunction}
 use Rattle.vtl_syntax.specs.declared.expr.JoinOperand.{JoinOperand}
 use Rattle.vtl_syntax.specs.declared.words.JoinFunction.{JoinFunction}
-use Rattle.vtl_spelling.specs.Kinds.{Kinds, ◌&◌, one, key, comma, commas, open_paren, close_paren, optional}
+use Rattle.vtl_spelling.specs.Kinds.{Kinds, ◌&◌, one, key, comma, commas, open_paren, close_paren, optional, name}
 use Rattle.vtl_spelling.specs.Words.{join_kind, set_kind}
 use Rattle.vtl_spelling.specs.Trees.{spelled, clause_spelled, groups_spelled, item_spelled, operand_spelled, range_spelled}
-use Rattle.vtl_spelling.proofs.Folds.{folded-Substr, folded-Replace, folded-Sets, folded-Join, clause_folded-Calc, clause_folded-Aggr}
+use Rattle.vtl_spelling.proofs.Folds.{folded-Substr, folded-Replace, folded-Sets, folded-Join, folded-CallOf, clause_folded-Calc, clause_folded-Aggr}
 use Rattle.vtl_spelling.proofs.Told.{next}
 use Rattle.vtl_spelling.proofs.ClausesTold.{spelling, optional-map, separated-map}
 
@@ -62,6 +62,9 @@ replace-spelled a b c p = folded-Replace spelling a b c p ∙ ap (λ (ks : Kinds
 pub sets-spelled : (f : SetFunction) (a b : Expr) (cs : List Expr) (p : Place) → spelled (tree.Sets f a b cs p) ≡ one (set_kind f) & open_paren & spelled a & comma & spelled b & flat_map (λ e. comma & spelled e) cs & close_paren
 sets-spelled f a b cs p = folded-Sets spelling f a b cs p ∙ ap (λ (ks : Kinds). one (set_kind f) & open_paren & spelled a & comma & spelled b & ks & close_paren) (flat_map-map (λ (ks : Kinds). comma & ks) spelled cs)
 
+pub call_of-spelled : (w : List ℕ) (xs : List Expr) (p : Place) → spelled (tree.CallOf w xs p) ≡ name w & open_paren & commas spelled xs & close_paren
+call_of-spelled w xs p = folded-CallOf spelling w xs p ∙ ap (λ (ks : Kinds). name w & open_paren & ks & close_paren) (separated-map comma (λ (ks : Kinds). ks) spelled xs)
+
 pub calc-spelled : (is : List Item) (p : Place) → clause_spelled (clause_tree.Calc is p) ≡ key words.Calc & commas item_spelled is
 calc-spelled is p = clause_folded-Calc spelling is p ∙ ap (λ (ks : Kinds). key words.Calc & ks) (separated-map comma (λ (ks : Kinds). ks) item_spelled is)
 
@@ -82,18 +85,18 @@ has_some-more : {A : Type 0} (xs : List A) (x : A) → true ≡ has_some (xs ++ 
 has_some-more [] x = refl
 has_some-more (y ∷ xs) x = refl
 
-pub some-more : (items : List Item) (k : ℕ) (x : Item) → take (k + 1) items ≡ take k items ++ x ∷ [] → true ≡ has_some (take (k + 1) items)
-some-more items k x more = has_some-more (take k items) x ∙ ap (λ (ys : List Item). has_some ys) (sym more)
+pub some-more : {A : Type 0} (items : List A) (k : ℕ) (x : A) → take (k + 1) items ≡ take k items ++ x ∷ [] → true ≡ has_some (take (k + 1) items)
+some-more {A} items k x more = has_some-more (take k items) x ∙ ap (λ (ys : List A). has_some ys) (sym more)
 
-commas-more : (xs : List Item) (x : Item) → commas item_spelled (xs ++ x ∷ []) ≡ commas item_spelled xs ++ (gap (has_some xs) ++ item_spelled x)
-commas-more [] x = append-nil (item_spelled x)
-commas-more (y ∷ ys) x =
-    ap (λ (ks : Kinds). item_spelled y & ks) (flat_map-append (λ i. comma & item_spelled i) ys (x ∷ []) ∙ ap (λ (ks : Kinds). flat_map (λ i. comma & item_spelled i) ys ++ ks) (append-nil (comma & item_spelled x)))
-    ∙ sym (append_assoc (item_spelled y) (flat_map (λ i. comma & item_spelled i) ys) (comma & item_spelled x))
+commas-more : {A : Type 0} (spell : A → Kinds) (xs : List A) (x : A) → commas spell (xs ++ x ∷ []) ≡ commas spell xs ++ (gap (has_some xs) ++ spell x)
+commas-more spell [] x = append-nil (spell x)
+commas-more spell (y ∷ ys) x =
+    ap (λ (ks : Kinds). spell y & ks) (flat_map-append (λ i. comma & spell i) ys (x ∷ []) ∙ ap (λ (ks : Kinds). flat_map (λ i. comma & spell i) ys ++ ks) (append-nil (comma & spell x)))
+    ∙ sym (append_assoc (spell y) (flat_map (λ i. comma & spell i) ys) (comma & spell x))
 
-pub items-more : (items : List Item) (k : ℕ) (x : Item) (b : Bool) (i o m z : Kinds) → take (k + 1) items ≡ take k items ++ x ∷ [] → o ≡ i ++ commas item_spelled (take k items) → b ≡ has_some (take k items) → m ≡ o ++ (if b then comma else []) → z ≡ m ++ item_spelled x → z ≡ i ++ commas item_spelled (take (k + 1) items)
-items-more items k x b i o m z more before some gapped put =
-    put ∙ ap (λ (ks : Kinds). ks ++ item_spelled x) (gapped ∙ ap₂ (λ (ks : Kinds) (c : Bool). ks ++ gap c) before some)
-    ∙ append_assoc (i ++ commas item_spelled (take k items)) (gap (has_some (take k items))) (item_spelled x)
-    ∙ append_assoc i (commas item_spelled (take k items)) (gap (has_some (take k items)) ++ item_spelled x)
-    ∙ ap (λ (ks : Kinds). i ++ ks) (sym (commas-more (take k items) x) ∙ ap (λ (ys : List Item). commas item_spelled ys) (sym more))
+pub items-more : {A : Type 0} (spell : A → Kinds) (items : List A) (k : ℕ) (x : A) (b : Bool) (i o m z : Kinds) → take (k + 1) items ≡ take k items ++ x ∷ [] → o ≡ i ++ commas spell (take k items) → b ≡ has_some (take k items) → m ≡ o ++ (if b then comma else []) → z ≡ m ++ spell x → z ≡ i ++ commas spell (take (k + 1) items)
+items-more {A} spell items k x b i o m z more before some gapped put =
+    put ∙ ap (λ (ks : Kinds). ks ++ spell x) (gapped ∙ ap₂ (λ (ks : Kinds) (c : Bool). ks ++ gap c) before some)
+    ∙ append_assoc (i ++ commas spell (take k items)) (gap (has_some (take k items))) (spell x)
+    ∙ append_assoc i (commas spell (take k items)) (gap (has_some (take k items)) ++ spell x)
+    ∙ ap (λ (ks : Kinds). i ++ ks) (sym (commas-more spell (take k items) x) ∙ ap (λ (ys : List A). commas spell ys) (sym more))

@@ -3,10 +3,11 @@ use Rattle.std.proofs.Common.{◌≡◌, inl, inr, refl}
 use Rattle.vtl_tokens.specs.declared.keyword.Keyword.TheVariants as words
 use Rattle.vtl_grammar.specs.Rules.{Rule, either, Of, word}
 use Rattle.vtl_grammar.specs.Clauses.{role_of, group_word_of}
-use Rattle.vtl_grammar.specs.Calls.{exists_rows_rule, exists_rows_of, rows_output_rule, rows_output_of, mode_rule, mode_of, hierarchy_input_rule, hierarchy_input_of, hierarchy_output_rule, hierarchy_output_of, check_input_rule, check_input_of, check_output_rule, check_output_of, direction_of}
+use Rattle.vtl_grammar.specs.Calls.{exists_rows_rule, exists_rows_of, rows_output_rule, rows_output_of, mode_rule, mode_of, hierarchy_input_rule, hierarchy_input_of, hierarchy_output_rule, hierarchy_output_of, check_input_rule, check_input_of, check_output_rule, check_output_of, direction_of, fill_span_rule, fill_span_of}
 use Rattle.vtl_grammar.specs.Rulesets.{relation_rule, relation_of, plus_or_minus, sign_of}
+use Rattle.vtl_grammar.specs.Operators.{sort_rule, sort_rule_of}
 use Rattle.vtl_spelling.specs.Kinds.{one}
-use Rattle.vtl_spelling.specs.Words.{exists_rows_kind, rows_output_kind, mode_kind, hierarchy_input_kind, hierarchy_output_kind, check_input_kind, check_output_kind, role_kind, group_word_kind, direction_kind, relation_kind, sign_kind}
+use Rattle.vtl_spelling.specs.Words.{exists_rows_kind, rows_output_kind, mode_kind, hierarchy_input_kind, hierarchy_output_kind, check_input_kind, check_output_kind, role_kind, group_word_kind, direction_kind, relation_kind, sign_kind, fill_span_kind, sort_kind}
 use Rattle.vtl_spelling.proofs.Values.{value_spelled, value_placeless}
 use Rattle.vtl_spelling.proofs.Told.{Told, same_word}
 
@@ -112,3 +113,20 @@ sign-told = record { tells = by_case }
     by_case : (v : Of plus_or_minus) → (one (sign_kind (sign_of v)) ≡ value_spelled plus_or_minus v) × (sign_of v ≡ sign_of (value_placeless plus_or_minus v))
     by_case (inl p) = (refl, refl)
     by_case (inr p) = (refl, refl)
+
+pub fill_span-told : Told fill_span_rule fill_span_of (λ x. one (fill_span_kind x)) same_word
+fill_span-told = record { tells = by_case }
+  where
+    by_case : (v : Of fill_span_rule) → (one (fill_span_kind (fill_span_of v)) ≡ value_spelled fill_span_rule v) × (fill_span_of v ≡ fill_span_of (value_placeless fill_span_rule v))
+    by_case (inl p) = (refl, refl)
+    by_case (inr p) = (refl, refl)
+
+pub sort-told : Told sort_rule sort_rule_of (λ x. one (sort_kind x)) same_word
+sort-told = record { tells = by_case }
+  where
+    by_case : (v : Of sort_rule) → (one (sort_kind (sort_rule_of v)) ≡ value_spelled sort_rule v) × (sort_rule_of v ≡ sort_rule_of (value_placeless sort_rule v))
+    by_case (inl p) = (refl, refl)
+    by_case (inr (inl p)) = (refl, refl)
+    by_case (inr (inr (inl p))) = (refl, refl)
+    by_case (inr (inr (inr (inl p)))) = (refl, refl)
+    by_case (inr (inr (inr (inr p)))) = (refl, refl)

@@ -4,6 +4,7 @@ pub mod Parts
 pub mod Shapes
 pub mod Trees
 pub mod Rulesets
+pub mod Operators
 pub mod Scripts
 pub mod Placeless
 pub mod Laws

@@ -24,6 +24,8 @@ use Rattle.vtl_syntax.specs.declared.ruleset.FaultPart.{FaultPart}
 use Rattle.vtl_syntax.specs.declared.ruleset.SignedName.{SignedName}
 use Rattle.vtl_syntax.specs.declared.ruleset.DatapointRule.{DatapointRule}
 use Rattle.vtl_syntax.specs.declared.ruleset.HierarchyRule.{HierarchyRule}
+use Rattle.vtl_syntax.specs.declared.operator.Param.{Param}
+use Rattle.vtl_syntax.specs.declared.operator.DefinedOperator.{DefinedOperator}
 use Rattle.vtl_syntax.specs.declared.script.Statement.{Statement}
 use Rattle.vtl_syntax.specs.declared.script.Script.{Script}
 
@@ -89,6 +91,11 @@ expr_bare (Expr-F.CheckDatapoint a r q o p) = tree.CheckDatapoint a r nowhere o 
 expr_bare (Expr-F.Hierarchy a r q c m i o p) = tree.Hierarchy a r nowhere c m i o nowhere
 expr_bare (Expr-F.CheckHierarchy a r q c m i o p) = tree.CheckHierarchy a r nowhere c m i o nowhere
 expr_bare (Expr-F.Check a c l i o p) = tree.Check a c l i o nowhere
+expr_bare (Expr-F.Time f a p) = tree.Time f a nowhere
+expr_bare (Expr-F.Timeshift a z p) = tree.Timeshift a z nowhere
+expr_bare (Expr-F.FillTimeSeries a s p) = tree.FillTimeSeries a s nowhere
+expr_bare (Expr-F.CallOf w as' p) = tree.CallOf w as' nowhere
+expr_bare (Expr-F.Typed s a p) = tree.Typed s a nowhere
 
 abbrev pub clause_bare : Clause-F Clause Expr Groups Item JoinOperand SubstrRange → Clause
 clause_bare (Clause-F.Filter a p) = clause_tree.Filter a nowhere
@@ -130,7 +137,7 @@ operand_placeless = fold-JoinOperand Clause Expr Groups Item JoinOperand SubstrR
 abbrev pub range_placeless : SubstrRange → SubstrRange
 range_placeless = fold-SubstrRange Clause Expr Groups Item JoinOperand SubstrRange clause_bare expr_bare groups_bare item_bare operand_bare range_bare
 
--- ---- rulesets and scripts
+-- ---- rulesets, defined operators and scripts
 
 abbrev pub variable_placeless : Variable → Variable
 variable_placeless v = record v { place = nowhere }
@@ -151,11 +158,17 @@ abbrev pub ruleset_placeless : Ruleset → Ruleset
 ruleset_placeless (kind.Datapoint d) = kind.Datapoint (record { name = d.name; variables = map variable_placeless d.variables; rules = map datapoint_rule_placeless d.rules; place = nowhere })
 ruleset_placeless (kind.Hierarchy h) = kind.Hierarchy (record { name = h.name; variables = option_map (λ vs. map variable_placeless vs) h.variables; component = h.component; rules = map hierarchy_rule_placeless h.rules; place = nowhere })
 
+abbrev pub param_placeless : Param → Param
+param_placeless p = record p { place = nowhere }
+
+abbrev pub operator_placeless : DefinedOperator → DefinedOperator
+operator_placeless o = record { name = o.name; params = map param_placeless o.params; returns = o.returns; body = placeless o.body; place = nowhere }
+
 abbrev pub statement_placeless : Statement → Statement
 statement_placeless s = record { name = s.name; persistent = s.persistent; expr = placeless s.expr; place = nowhere }
 
 abbrev pub script_placeless : Script → Script
-script_placeless s = record { statements = map statement_placeless s.statements; rulesets = map ruleset_placeless s.rulesets }
+script_placeless s = record { statements = map statement_placeless s.statements; rulesets = map ruleset_placeless s.rulesets; operators = map operator_placeless s.operators }
 
 -- ---- the same but for places
 

@@ -10,6 +10,8 @@ use Rattle.vtl_syntax.specs.declared.expr.Clause.TheOpen.{Expr-F}
 pub data Shape : Type 0 where
   -- it holds no tree
   leaf : Shape
+  -- a tree alone
+  bare : Shape
   -- a word between two conditions
   between_conditions : Shape
   -- a sign between two operands
@@ -59,6 +61,11 @@ layer_shape (Expr-F.CheckDatapoint a r q o p) = check_call
 layer_shape (Expr-F.Hierarchy a r q c m i o p) = hierarchical_call
 layer_shape (Expr-F.CheckHierarchy a r q c m i o p) = hierarchical_call
 layer_shape (Expr-F.Check a c l i o p) = check_call
+layer_shape (Expr-F.Time f a p) = one_operand_call
+layer_shape (Expr-F.Timeshift a z p) = one_operand_call
+layer_shape (Expr-F.FillTimeSeries a s p) = one_operand_call
+layer_shape (Expr-F.CallOf w as' p) = operands_call
+layer_shape (Expr-F.Typed s a p) = bare
 layer_shape (Expr-F.Literal v p) = leaf
 layer_shape (Expr-F.Name w p) = leaf
 layer_shape (Expr-F.CountAll p) = leaf

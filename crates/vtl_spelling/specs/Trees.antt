@@ -10,7 +10,7 @@ use Rattle.vtl_syntax.specs.declared.expr.JoinOperand.{JoinOperand, fold-JoinOpe
 use Rattle.vtl_syntax.specs.declared.expr.SubstrRange.{SubstrRange, fold-SubstrRange}
 use Rattle.vtl_syntax.specs.declared.expr.Clause.TheOpen.{Expr-F, Clause-F, Groups-F, Item-F, JoinOperand-F, SubstrRange-F}
 use Rattle.vtl_spelling.specs.Kinds.{Kinds, ◌&◌, one, key, sig, comma, commas, open_paren, close_paren, optional, name, text, integer, signed_integer}
-use Rattle.vtl_spelling.specs.Words.{or_kind, comparison_kind, in_kind, sum_kind, product_kind, prefix_kind, unary_kind, round_kind, binary_kind, exists_rows_kind, set_kind, difference_kind, join_kind, aggregate_kind, window_kind, offset_kind, rows_output_kind, check_output_kind, mode_kind, hierarchy_input_kind, hierarchy_output_kind, check_input_kind, role_kind}
+use Rattle.vtl_spelling.specs.Words.{or_kind, comparison_kind, in_kind, sum_kind, product_kind, prefix_kind, unary_kind, round_kind, binary_kind, exists_rows_kind, set_kind, difference_kind, join_kind, aggregate_kind, window_kind, offset_kind, rows_output_kind, check_output_kind, mode_kind, hierarchy_input_kind, hierarchy_output_kind, check_input_kind, role_kind, time_kind, fill_span_kind}
 use Rattle.vtl_spelling.specs.Parts.{literal_spelled, unsigned_spelled, comp_spelled, rename_spelled, sub_item_spelled, grouping_spelled, over_spelled}
 
 -- what is spelled already
@@ -21,7 +21,7 @@ it k = k
 abbrev pub call : Kinds → Kinds → Kinds
 call f k = f & open_paren & k
 
--- a level of an expression, where each part is spelled
+-- a level of an expression, where each part is spelled. What is typed has no tokens of its own
 abbrev pub expr_step : Expr-F Kinds Kinds Kinds Kinds Kinds Kinds → Kinds
 expr_step (Expr-F.If c a b p) = key words.If & c & key words.Then & a & key words.Else & b
 expr_step (Expr-F.Or a s b p) = a & one (or_kind s) & b
@@ -56,6 +56,11 @@ expr_step (Expr-F.CheckDatapoint a r q o p) = call (key words.CheckDatapoint) (a
 expr_step (Expr-F.Hierarchy a r q c m i o p) = call (key words.Hierarchy) (a & comma & name r & optional (λ w. key words.Rule & name w) c & optional (λ w. one (mode_kind w)) m & optional (λ w. one (hierarchy_input_kind w)) i & optional (λ w. one (hierarchy_output_kind w)) o & close_paren)
 expr_step (Expr-F.CheckHierarchy a r q c m i o p) = call (key words.CheckHierarchy) (a & comma & name r & optional (λ w. key words.Rule & name w) c & optional (λ w. one (mode_kind w)) m & optional (λ w. one (check_input_kind w)) i & optional (λ w. one (rows_output_kind w)) o & close_paren)
 expr_step (Expr-F.Check a c l i o p) = call (key words.Check) (a & optional (λ t. key words.Errorcode & text t) c & optional (λ z. key words.Errorlevel & signed_integer z) l & optional (λ k. key words.Imbalance & k) i & optional (λ w. one (check_output_kind w)) o & close_paren)
+expr_step (Expr-F.Time f a p) = call (one (time_kind f)) (a & close_paren)
+expr_step (Expr-F.Timeshift a z p) = call (key words.Timeshift) (a & comma & signed_integer z & close_paren)
+expr_step (Expr-F.FillTimeSeries a s p) = call (key words.FillTimeSeries) (a & optional (λ w. comma & one (fill_span_kind w)) s & close_paren)
+expr_step (Expr-F.CallOf w as' p) = call (name w) (commas it as' & close_paren)
+expr_step (Expr-F.Typed s a p) = a
 
 abbrev pub clause_step : Clause-F Kinds Kinds Kinds Kinds Kinds Kinds → Kinds
 clause_step (Clause-F.Filter a p) = key words.Filter & a

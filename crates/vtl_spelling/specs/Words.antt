@@ -59,6 +59,12 @@ use Rattle.vtl_syntax.specs.declared.words.Relation.{Relation}
 use Rattle.vtl_syntax.specs.declared.words.Relation.TheVariants as relation
 use Rattle.vtl_syntax.specs.declared.words.Sign.{Sign}
 use Rattle.vtl_syntax.specs.declared.words.Sign.TheVariants as sign
+use Rattle.vtl_syntax.specs.declared.words.TimeFunction.{TimeFunction}
+use Rattle.vtl_syntax.specs.declared.words.TimeFunction.TheVariants as time_function
+use Rattle.vtl_syntax.specs.declared.words.FillSpan.{FillSpan}
+use Rattle.vtl_syntax.specs.declared.words.FillSpan.TheVariants as fill_span
+use Rattle.vtl_syntax.specs.declared.words.Sort.{Sort}
+use Rattle.vtl_syntax.specs.declared.words.Sort.TheVariants as sort
 
 -- a reserved word
 abbrev pub key : Keyword → TokenKind
@@ -213,3 +219,19 @@ relation_kind relation.AtLeast = sig s.AtLeast
 abbrev pub sign_kind : Sign → TokenKind
 sign_kind sign.Plus = sig s.Plus
 sign_kind sign.Minus = sig s.Minus
+
+abbrev pub time_kind : TimeFunction → TokenKind
+time_kind time_function.FlowToStock = key w.FlowToStock
+time_kind time_function.StockToFlow = key w.StockToFlow
+time_kind time_function.PeriodIndicator = key w.PeriodIndicator
+
+abbrev pub fill_span_kind : FillSpan → TokenKind
+fill_span_kind fill_span.All = key w.All
+fill_span_kind fill_span.Single = key w.Single
+
+abbrev pub sort_kind : Sort → TokenKind
+sort_kind sort.Dataset = key w.Dataset
+sort_kind sort.Integer = key w.Integer
+sort_kind sort.Number = key w.Number
+sort_kind sort.Text = key w.String
+sort_kind sort.Truth = key w.Boolean

@@ -1,7 +1,7 @@
 // What stands in a call behind its first operand, and in a set.
 ghost use Rattle.std.specs.Prelude.{◌≡◌, ◌++◌, OnOk};
 ghost use Rattle.vtl_spelling.specs.Kinds.{◌&◌, one, key, sig, comma, commas, open_paren, close_paren, optional, name, text as text_kind, integer as integer_kind, signed_integer};
-ghost use Rattle.vtl_spelling.specs.Words.{in_kind, exists_rows_kind, rows_output_kind, check_output_kind, mode_kind, hierarchy_input_kind, hierarchy_output_kind, check_input_kind};
+ghost use Rattle.vtl_spelling.specs.Words.{in_kind, exists_rows_kind, rows_output_kind, check_output_kind, mode_kind, hierarchy_input_kind, hierarchy_output_kind, check_input_kind, fill_span_kind};
 ghost use Rattle.vtl_spelling.specs.Parts.{literal_spelled, over_spelled};
 
 use crate::kinds::{Choice, Spell, both, chosen, integer, push, separated, text, worded};
@@ -9,7 +9,8 @@ use sqlite_items::Items;
 use std::alloc::AllocError;
 use vtl_syntax::Over;
 use vtl_syntax::words::{
-    CheckInput, CheckOutput, ExistsRows, HierarchyInput, HierarchyOutput, InSign, Mode, RowsOutput,
+    CheckInput, CheckOutput, ExistsRows, FillSpan, HierarchyInput, HierarchyOutput, InSign, Mode,
+    RowsOutput,
 };
 use vtl_tokens::{Keyword, Sign, TokenKind};
 use vtl_values::{Integer, Value, Word};
@@ -33,6 +34,26 @@ pub(crate) fn digits(digits: &Option<Integer>, out: &mut Vec<TokenKind>) -> Resu
     match digits {
         Some(digits) => {
             both(&Sign::Comma, digits, out)?;
+            Sign::RightParen.spell(out)
+        }
+        None => Sign::RightParen.spell(out),
+    }
+}
+
+pub(crate) fn shift(shift: &Integer, out: &mut Vec<TokenKind>) -> Result<(), AllocError>
+    ensures { OnOk result (out.new.items ≡ out.old.items ++ (comma & signed_integer shift.now & close_paren)) }
+{
+    both(&Sign::Comma, shift, out)?;
+    Sign::RightParen.spell(out)
+}
+
+pub(crate) fn span(span: &Option<FillSpan>, out: &mut Vec<TokenKind>) -> Result<(), AllocError>
+    ensures { OnOk result (out.new.items ≡ out.old.items ++ (optional (λ w. comma & one (fill_span_kind w)) span.now & close_paren)) }
+{
+    match span {
+        Some(span) => {
+            Sign::Comma.spell(out)?;
+            push(span.kind(), out)?;
             Sign::RightParen.spell(out)
         }
         None => Sign::RightParen.spell(out),

@@ -1,7 +1,7 @@
 //! The tokens that spell a script.
 //!
-//! `specs/` says which kinds of tokens spell a tree, and a script: its rulesets, and then its statements, each in their
-//! order. `laws` proves that tokens of these kinds are the script again, apart from places, where the grammar gives it
+//! `specs/` says which kinds of tokens spell a tree, and a script: its defined operators, its rulesets, and then its
+//! statements, each in their order. `laws` proves that tokens of these kinds are the script again, apart from places, where the grammar gives it
 //! to some tokens.
 //!
 //! It stands on `vtl_grammar`.
@@ -10,6 +10,7 @@
 mod calls;
 mod kinds;
 pub mod laws;
+mod operators;
 mod parts;
 mod rulesets;
 mod scripts;

@@ -29,11 +29,13 @@ impl Spell for Statement {
     }
 }
 
-/// The kinds of the tokens that spell the script, its rulesets and then its statements, or want of memory.
+/// The kinds of the tokens that spell the script, its defined operators, its rulesets and then its statements, or want
+/// of memory.
 pub fn spell(alloc: Global, script: &Script) -> Result<Vec<TokenKind>, AllocError>
     ensures { IfOk result (λ kinds. kinds.items ≡ script_spelled script.now) }
 {
     let mut out = Vec::new(alloc);
+    each(script.operators.as_slice(), &mut out)?;
     each(script.rulesets.as_slice(), &mut out)?;
     each(script.statements.as_slice(), &mut out)?;
     Ok(out)

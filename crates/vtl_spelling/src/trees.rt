@@ -7,7 +7,7 @@ ghost use Rattle.vtl_spelling.specs.Trees.{spelled, clause_spelled, groups_spell
 
 use crate::calls::{
     check_output, count_all, datapoint_check, digits, fault, hierarchy, hierarchy_check, in_set,
-    limits, offset, pattern, rank, rows,
+    limits, offset, pattern, rank, rows, shift, span,
 };
 use crate::kinds::{Choice, Spell, both, chosen, push, separated, worded};
 use crate::parts::unsigned;
@@ -54,6 +54,11 @@ pub(crate) fn expr(tree: &Expr, out: &mut Vec<TokenKind>) -> Result<(), AllocErr
         Expr::Hierarchy { .. } => hierarchical(tree, out),
         Expr::CheckHierarchy { .. } => hierarchical(tree, out),
         Expr::Check { .. } => check(tree, out),
+        Expr::Time { .. } => one_operand(tree, out),
+        Expr::Timeshift { .. } => one_operand(tree, out),
+        Expr::FillTimeSeries { .. } => one_operand(tree, out),
+        Expr::CallOf { .. } => operands(tree, out),
+        Expr::Typed { expr, .. } => self::expr(expr.get(), out),
     }
 }
 
@@ -242,6 +247,22 @@ fn one_operand(tree: &Expr, out: &mut Vec<TokenKind>) -> Result<(), AllocError>
             worded_call(Keyword::MatchCharacters, operand.get(), out)?;
             self::pattern(pattern, out)
         }
+        Expr::Time {
+            function,
+            operand,
+            ..
+        } => {
+            call(function.kind(), operand.get(), out)?;
+            Sign::RightParen.spell(out)
+        }
+        Expr::Timeshift { operand, shift, .. } => {
+            worded_call(Keyword::Timeshift, operand.get(), out)?;
+            self::shift(shift, out)
+        }
+        Expr::FillTimeSeries { operand, span, .. } => {
+            worded_call(Keyword::FillTimeSeries, operand.get(), out)?;
+            self::span(span, out)
+        }
         _ => Ok(()),
     }
 }
@@ -318,6 +339,15 @@ fn operands(tree: &Expr, out: &mut Vec<TokenKind>) -> Result<(), AllocError>
             call(function.kind(), first.get(), out)?;
             next_operand(second.get(), out)?;
             more_operands(others.as_slice(), out)?;
+            Sign::RightParen.spell(out)
+        }
+        Expr::CallOf {
+            name,
+            arguments,
+            ..
+        } => {
+            both(name, &Sign::LeftParen, out)?;
+            self::arguments(arguments.as_slice(), out)?;
             Sign::RightParen.spell(out)
         }
         _ => Ok(()),
@@ -532,6 +562,20 @@ fn more_operands(operands: &[Expr], out: &mut Vec<TokenKind>) -> Result<(), Allo
 {
     for operand in operands {
         next_operand(operand, out)?;
+    }
+    Ok(())
+}
+
+/// The arguments of a call of a defined operator.
+#[cycle(spelling)]
+fn arguments(arguments: &[Expr], out: &mut Vec<TokenKind>) -> Result<(), AllocError>
+    ensures { OnOk result (out.new.items ≡ out.old.items ++ commas spelled arguments.now) }
+{
+    let mut some = false;
+    for next in arguments {
+        comma_behind(some, out)?;
+        expr(next, out)?;
+        some = true;
     }
     Ok(())
 }

@@ -1,13 +1,13 @@
 // Choices between words or signs: each is one token.
-ghost use Rattle.vtl_spelling.specs.Words.{or_kind, comparison_kind, in_kind, sum_kind, product_kind, prefix_kind, unary_kind, round_kind, binary_kind, exists_rows_kind, set_kind, difference_kind, join_kind, aggregate_kind, window_kind, offset_kind, rows_output_kind, check_output_kind, mode_kind, hierarchy_input_kind, hierarchy_output_kind, check_input_kind, role_kind, group_word_kind, direction_kind, relation_kind, sign_kind};
+ghost use Rattle.vtl_spelling.specs.Words.{or_kind, comparison_kind, in_kind, sum_kind, product_kind, prefix_kind, unary_kind, round_kind, binary_kind, exists_rows_kind, set_kind, difference_kind, join_kind, aggregate_kind, window_kind, offset_kind, rows_output_kind, check_output_kind, mode_kind, hierarchy_input_kind, hierarchy_output_kind, check_input_kind, role_kind, group_word_kind, direction_kind, relation_kind, sign_kind, time_kind, fill_span_kind, sort_kind};
 
 use crate::kinds::Choice;
 use vtl_syntax::words as choices;
 use vtl_syntax::words::{
     AggregateFunction, BinaryFunction, CheckInput, CheckOutput, Comparison, DifferenceFunction,
-    Direction, ExistsRows, GroupWord, HierarchyInput, HierarchyOutput, InSign, ItemRole,
+    Direction, ExistsRows, FillSpan, GroupWord, HierarchyInput, HierarchyOutput, InSign, ItemRole,
     JoinFunction, Mode, OffsetFunction, OrSign, Prefix, ProductSign, Relation, RoundFunction,
-    RowsOutput, SetFunction, SumSign, UnaryFunction, WindowFunction,
+    RowsOutput, SetFunction, Sort, SumSign, TimeFunction, UnaryFunction, WindowFunction,
 };
 use vtl_tokens::{Keyword, Sign, TokenKind};
 
@@ -342,6 +342,43 @@ impl Choice for choices::Sign {
         match self {
             choices::Sign::Plus => TokenKind::Sign(Sign::Plus),
             choices::Sign::Minus => TokenKind::Sign(Sign::Minus),
+        }
+    }
+}
+
+impl Choice for TimeFunction {
+    ghost choice = { time_kind };
+
+    fn kind(&self) -> TokenKind {
+        match self {
+            TimeFunction::FlowToStock => TokenKind::Reserved(Keyword::FlowToStock),
+            TimeFunction::StockToFlow => TokenKind::Reserved(Keyword::StockToFlow),
+            TimeFunction::PeriodIndicator => TokenKind::Reserved(Keyword::PeriodIndicator),
+        }
+    }
+}
+
+impl Choice for FillSpan {
+    ghost choice = { fill_span_kind };
+
+    fn kind(&self) -> TokenKind {
+        match self {
+            FillSpan::All => TokenKind::Reserved(Keyword::All),
+            FillSpan::Single => TokenKind::Reserved(Keyword::Single),
+        }
+    }
+}
+
+impl Choice for Sort {
+    ghost choice = { sort_kind };
+
+    fn kind(&self) -> TokenKind {
+        match self {
+            Sort::Dataset => TokenKind::Reserved(Keyword::Dataset),
+            Sort::Integer => TokenKind::Reserved(Keyword::Integer),
+            Sort::Number => TokenKind::Reserved(Keyword::Number),
+            Sort::Text => TokenKind::Reserved(Keyword::String),
+            Sort::Truth => TokenKind::Reserved(Keyword::Boolean),
         }
     }
 }

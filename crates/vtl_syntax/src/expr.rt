@@ -1,9 +1,10 @@
 // Expressions, and what stands inside them.
 use crate::words::{
     AggregateFunction, BinaryFunction, CheckInput, CheckOutput, Comparison, DifferenceFunction,
-    Direction, ExistsRows, GroupWord, HierarchyInput, HierarchyOutput, InSign, ItemRole,
+    Direction, ExistsRows, FillSpan, GroupWord, HierarchyInput, HierarchyOutput, InSign, ItemRole,
     JoinFunction, Mode, OffsetFunction, OrSign, Prefix, ProductSign, RoundFunction, RowsOutput,
-    SetFunction, SumSign, UnaryFunction, WindowEnd, WindowFunction, WindowStart,
+    SetFunction, Sort, SumSign, TimeFunction, UnaryFunction, WindowEnd, WindowFunction,
+    WindowStart,
 };
 use sqlite_items::{Boxed, Items};
 use vtl_values::{Integer, Place, Value, Word};
@@ -243,9 +244,39 @@ pub enum Expr {
         output: Option<CheckOutput>,
         place: Place,
     },
+    /// `flow_to_stock(a)`, `stock_to_flow(a)`, `period_indicator(a)`
+    Time {
+        function: TimeFunction,
+        operand: Boxed<Expr>,
+        place: Place,
+    },
+    /// `timeshift(a, n)`
+    Timeshift {
+        operand: Boxed<Expr>,
+        shift: Integer,
+        place: Place,
+    },
+    /// `fill_time_series(a, span)`
+    FillTimeSeries {
+        operand: Boxed<Expr>,
+        span: Option<FillSpan>,
+        place: Place,
+    },
+    /// `name(a, b, ..)`, a call of a defined operator
+    CallOf {
+        name: Word,
+        arguments: Items<Expr>,
+        place: Place,
+    },
+    /// An argument or the result of a call that was written out, which has to be of the sort. It has no text.
+    Typed {
+        sort: Sort,
+        expr: Boxed<Expr>,
+        place: Place,
+    },
 }
 
-/// A clause, behind a data set or in a join. Its place is that of its word.
+/// A clause, after a data set or in a join. Its place is that of its word.
 #[derive(Drop)]
 #[cycle(tree)]
 pub enum Clause {

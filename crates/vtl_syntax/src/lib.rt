@@ -10,6 +10,7 @@
 #![tactic(auto)]
 
 pub mod expr;
+pub mod operator;
 pub mod ruleset;
 pub mod script;
 pub mod words;
@@ -18,6 +19,7 @@ pub use expr::{
     Clause, Comp, Expr, Grouping, Groups, Item, JoinOperand, OrderItem, Over, Points, Rename,
     SubItem, SubstrRange,
 };
+pub use operator::{DefinedOperator, Param};
 pub use ruleset::{
     DatapointRule, DatapointRules, FaultPart, HierarchyRule, HierarchyRules, Ruleset, SignedName,
     Variable,

@@ -1,14 +1,16 @@
 // Scripts.
 use crate::expr::Expr;
+use crate::operator::DefinedOperator;
 use crate::ruleset::Ruleset;
 use sqlite_items::Items;
 use vtl_values::{Place, Word};
 
-/// A script. Both lists are in its order; the order between a statement and a ruleset is that of their places.
+/// A script. Each list is in its order; the order between items of different lists is that of their places.
 #[derive(Drop)]
 pub struct Script {
     pub statements: Items<Statement>,
     pub rulesets: Items<Ruleset>,
+    pub operators: Items<DefinedOperator>,
 }
 
 /// `name <- expr` or `name := expr`. The result is published where it is persistent, which is `<-`.

@@ -243,3 +243,29 @@ pub enum CheckInput {
     Dataset,
     DatasetPriority,
 }
+
+/// Operators on time series with an operand alone.
+#[derive(Clone, Copy, Debug, PartialEq, Eq)]
+pub enum TimeFunction {
+    FlowToStock,
+    StockToFlow,
+    PeriodIndicator,
+}
+
+/// Between which periods `fill_time_series` adds those that are missing: the first and the last of all series, or of
+/// each single one.
+#[derive(Clone, Copy, Debug, PartialEq, Eq)]
+pub enum FillSpan {
+    All,
+    Single,
+}
+
+/// What a parameter or the result of a defined operator is: a data set, or a scalar of a kind.
+#[derive(Clone, Copy, Debug, PartialEq, Eq)]
+pub enum Sort {
+    Dataset,
+    Integer,
+    Number,
+    Text,
+    Truth,
+}

@@ -1,9 +1,9 @@
 -- Reserved words (docs/language.md, "Tokens").
-use Rattle.std.specs.Prelude.{ℕ, List, Option, find, nat_eq, codes, ⊤}
+use Rattle.std.specs.Prelude.{ℕ, List, Option, Bool, true, false, find, nat_eq, codes}
 use Rattle.std.specs.Cmp.Lexicographic.{pointwise}
 use Rattle.vtl_tokens.specs.declared.keyword.Keyword.{Keyword}
 use Rattle.vtl_tokens.specs.declared.keyword.TheConstants.Keyword.{ALL}
-use Rattle.vtl_tokens.specs.declared.keyword.Keyword.TheVariants.{Define, Datapoint, Hierarchical, Ruleset, Variable, Condition, Rule, Is, End, As, When, Then, Errorcode, Errorlevel, If, Else, Or, Xor, And, Not, In, NotIn, True, False, Null, Filter, Calc, Keep, Drop, Rename, To, Sub, Unpivot, Aggr, Having, Measure, Attribute, Group, By, Except, Over, Partition, Order, Asc, Desc, Data, Points, Point, Between, Preceding, Following, Unbounded, Current, Abs, Ceil, Floor, Trim, Ltrim, Rtrim, Upper, Lower, Length, Isnull, Round, Trunc, Mod, Nvl, Instr, MatchCharacters, Substr, Replace, ExistsIn, Union, Intersect, Setdiff, Symdiff, InnerJoin, LeftJoin, FullJoin, CrossJoin, Sum, Avg, Count, Min, Max, Median, FirstValue, LastValue, RatioToReport, Lag, Lead, Rank, CheckDatapoint, CheckHierarchy, Hierarchy, Check, Imbalance, All, AllMeasures, Invalid, Computed, NonNull, NonZero, PartialNull, PartialZero, AlwaysNull, AlwaysZero, Dataset, DatasetPriority, RulePriority, Eval, Cast, CurrentDate, TimeAgg, Ln, Exp, Log, Sqrt, Power, VarPop, VarSamp, StddevPop, StddevSamp, Pivot, Using, Apply, Range, Valuedomain, Components, Timeshift, FillTimeSeries, FlowToStock, StockToFlow, PeriodIndicator, Viral, Identifier, Operator}
+use Rattle.vtl_tokens.specs.declared.keyword.Keyword.TheVariants.{Define, Datapoint, Hierarchical, Ruleset, Operator, Returns, Variable, Condition, Rule, Is, End, As, When, Then, Errorcode, Errorlevel, If, Else, Or, Xor, And, Not, In, NotIn, True, False, Null, Filter, Calc, Keep, Drop, Rename, To, Sub, Unpivot, Aggr, Having, Measure, Attribute, Group, By, Except, Over, Partition, Order, Asc, Desc, Data, Points, Point, Between, Preceding, Following, Unbounded, Current, Abs, Ceil, Floor, Trim, Ltrim, Rtrim, Upper, Lower, Length, Isnull, Round, Trunc, Mod, Nvl, Instr, MatchCharacters, Substr, Replace, ExistsIn, Union, Intersect, Setdiff, Symdiff, InnerJoin, LeftJoin, FullJoin, CrossJoin, Sum, Avg, Count, Min, Max, Median, FirstValue, LastValue, RatioToReport, Lag, Lead, Rank, CheckDatapoint, CheckHierarchy, Hierarchy, Check, Imbalance, Timeshift, FillTimeSeries, FlowToStock, StockToFlow, PeriodIndicator, Single, All, AllMeasures, Invalid, Computed, NonNull, NonZero, PartialNull, PartialZero, AlwaysNull, AlwaysZero, Dataset, Integer, Number, String, Boolean, DatasetPriority, RulePriority, Eval, Cast, CurrentDate, TimeAgg, Ln, Exp, Log, Sqrt, Power, VarPop, VarSamp, StddevPop, StddevSamp, Pivot, Using, Apply, Range, Valuedomain, Components, Viral, Identifier}
 
 -- how a reserved word is written; ASCII, so the same in characters and bytes
 abbrev pub word_of : Keyword → List ℕ
@@ -11,6 +11,8 @@ word_of Define = codes "define"
 word_of Datapoint = codes "datapoint"
 word_of Hierarchical = codes "hierarchical"
 word_of Ruleset = codes "ruleset"
+word_of Operator = codes "operator"
+word_of Returns = codes "returns"
 word_of Variable = codes "variable"
 word_of Condition = codes "condition"
 word_of Rule = codes "rule"
@@ -104,6 +106,12 @@ word_of CheckHierarchy = codes "check_hierarchy"
 word_of Hierarchy = codes "hierarchy"
 word_of Check = codes "check"
 word_of Imbalance = codes "imbalance"
+word_of Timeshift = codes "timeshift"
+word_of FillTimeSeries = codes "fill_time_series"
+word_of FlowToStock = codes "flow_to_stock"
+word_of StockToFlow = codes "stock_to_flow"
+word_of PeriodIndicator = codes "period_indicator"
+word_of Single = codes "single"
 word_of All = codes "all"
 word_of AllMeasures = codes "all_measures"
 word_of Invalid = codes "invalid"
@@ -115,6 +123,10 @@ word_of PartialZero = codes "partial_zero"
 word_of AlwaysNull = codes "always_null"
 word_of AlwaysZero = codes "always_zero"
 word_of Dataset = codes "dataset"
+word_of Integer = codes "integer"
+word_of Number = codes "number"
+word_of String = codes "string"
+word_of Boolean = codes "boolean"
 word_of DatasetPriority = codes "dataset_priority"
 word_of RulePriority = codes "rule_priority"
 word_of Eval = codes "eval"
@@ -136,46 +148,34 @@ word_of Apply = codes "apply"
 word_of Range = codes "range"
 word_of Valuedomain = codes "valuedomain"
 word_of Components = codes "components"
-word_of Timeshift = codes "timeshift"
-word_of FillTimeSeries = codes "fill_time_series"
-word_of FlowToStock = codes "flow_to_stock"
-word_of StockToFlow = codes "stock_to_flow"
-word_of PeriodIndicator = codes "period_indicator"
 word_of Viral = codes "viral"
 word_of Identifier = codes "identifier"
-word_of Operator = codes "operator"
 
 -- the reserved word that is written so
 unfoldable pub keyword_of : List ℕ → Option Keyword
 keyword_of text = find (λ word. pointwise nat_eq (word_of word) text) ALL
 
 -- a word of the whole language that this profile leaves out
-abbrev pub IsLeftOut : Keyword → Type 0
-IsLeftOut Eval = ⊤
-IsLeftOut Cast = ⊤
-IsLeftOut CurrentDate = ⊤
-IsLeftOut TimeAgg = ⊤
-IsLeftOut Ln = ⊤
-IsLeftOut Exp = ⊤
-IsLeftOut Log = ⊤
-IsLeftOut Sqrt = ⊤
-IsLeftOut Power = ⊤
-IsLeftOut VarPop = ⊤
-IsLeftOut VarSamp = ⊤
-IsLeftOut StddevPop = ⊤
-IsLeftOut StddevSamp = ⊤
-IsLeftOut Pivot = ⊤
-IsLeftOut Using = ⊤
-IsLeftOut Apply = ⊤
-IsLeftOut Range = ⊤
-IsLeftOut Valuedomain = ⊤
-IsLeftOut Components = ⊤
-IsLeftOut Timeshift = ⊤
-IsLeftOut FillTimeSeries = ⊤
-IsLeftOut FlowToStock = ⊤
-IsLeftOut StockToFlow = ⊤
-IsLeftOut PeriodIndicator = ⊤
-IsLeftOut Viral = ⊤
-IsLeftOut Identifier = ⊤
-IsLeftOut Operator = ⊤
-IsLeftOut _ = ⊥
+abbrev pub is_left_out : Keyword → Bool
+is_left_out Eval = true
+is_left_out Cast = true
+is_left_out CurrentDate = true
+is_left_out TimeAgg = true
+is_left_out Ln = true
+is_left_out Exp = true
+is_left_out Log = true
+is_left_out Sqrt = true
+is_left_out Power = true
+is_left_out VarPop = true
+is_left_out VarSamp = true
+is_left_out StddevPop = true
+is_left_out StddevSamp = true
+is_left_out Pivot = true
+is_left_out Using = true
+is_left_out Apply = true
+is_left_out Range = true
+is_left_out Valuedomain = true
+is_left_out Components = true
+is_left_out Viral = true
+is_left_out Identifier = true
+is_left_out _ = false

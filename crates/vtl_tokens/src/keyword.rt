@@ -1,7 +1,7 @@
 // Reserved words.
-ghost use Rattle.std.specs.Prelude.{◌≡◌, ◌↔◌, IsTrue, Some, find, nat_eq};
+ghost use Rattle.std.specs.Prelude.{◌≡◌, ◌↔◌, Some, find, nat_eq};
 ghost use Rattle.std.specs.Cmp.Lexicographic.{pointwise};
-ghost use Rattle.vtl_tokens.specs.Keywords.{word_of, keyword_of, IsLeftOut};
+ghost use Rattle.vtl_tokens.specs.Keywords.{word_of, keyword_of, is_left_out};
 
 /// A word that is no name unless it stands in quotes.
 #[derive(Clone, Copy, Debug, PartialEq, Eq)]
@@ -10,6 +10,8 @@ pub enum Keyword {
     Datapoint,
     Hierarchical,
     Ruleset,
+    Operator,
+    Returns,
     Variable,
     Condition,
     Rule,
@@ -103,6 +105,12 @@ pub enum Keyword {
     Hierarchy,
     Check,
     Imbalance,
+    Timeshift,
+    FillTimeSeries,
+    FlowToStock,
+    StockToFlow,
+    PeriodIndicator,
+    Single,
     All,
     AllMeasures,
     Invalid,
@@ -114,6 +122,10 @@ pub enum Keyword {
     AlwaysNull,
     AlwaysZero,
     Dataset,
+    Integer,
+    Number,
+    String,
+    Boolean,
     DatasetPriority,
     RulePriority,
     Eval,
@@ -135,23 +147,19 @@ pub enum Keyword {
     Range,
     Valuedomain,
     Components,
-    Timeshift,
-    FillTimeSeries,
-    FlowToStock,
-    StockToFlow,
-    PeriodIndicator,
     Viral,
     Identifier,
-    Operator,
 }
 
 impl Keyword {
     /// All of them, each once.
-    pub const ALL: [Keyword; 137] = [
+    pub const ALL: [Keyword; 143] = [
         Keyword::Define,
         Keyword::Datapoint,
         Keyword::Hierarchical,
         Keyword::Ruleset,
+        Keyword::Operator,
+        Keyword::Returns,
         Keyword::Variable,
         Keyword::Condition,
         Keyword::Rule,
@@ -245,6 +253,12 @@ impl Keyword {
         Keyword::Hierarchy,
         Keyword::Check,
         Keyword::Imbalance,
+        Keyword::Timeshift,
+        Keyword::FillTimeSeries,
+        Keyword::FlowToStock,
+        Keyword::StockToFlow,
+        Keyword::PeriodIndicator,
+        Keyword::Single,
         Keyword::All,
         Keyword::AllMeasures,
         Keyword::Invalid,
@@ -256,6 +270,10 @@ impl Keyword {
         Keyword::AlwaysNull,
         Keyword::AlwaysZero,
         Keyword::Dataset,
+        Keyword::Integer,
+        Keyword::Number,
+        Keyword::String,
+        Keyword::Boolean,
         Keyword::DatasetPriority,
         Keyword::RulePriority,
         Keyword::Eval,
@@ -277,14 +295,8 @@ impl Keyword {
         Keyword::Range,
         Keyword::Valuedomain,
         Keyword::Components,
-        Keyword::Timeshift,
-        Keyword::FillTimeSeries,
-        Keyword::FlowToStock,
-        Keyword::StockToFlow,
-        Keyword::PeriodIndicator,
         Keyword::Viral,
         Keyword::Identifier,
-        Keyword::Operator,
     ];
 
     /// How the word is written.
@@ -296,6 +308,8 @@ impl Keyword {
             Keyword::Datapoint => "datapoint",
             Keyword::Hierarchical => "hierarchical",
             Keyword::Ruleset => "ruleset",
+            Keyword::Operator => "operator",
+            Keyword::Returns => "returns",
             Keyword::Variable => "variable",
             Keyword::Condition => "condition",
             Keyword::Rule => "rule",
@@ -389,6 +403,12 @@ impl Keyword {
             Keyword::Hierarchy => "hierarchy",
             Keyword::Check => "check",
             Keyword::Imbalance => "imbalance",
+            Keyword::Timeshift => "timeshift",
+            Keyword::FillTimeSeries => "fill_time_series",
+            Keyword::FlowToStock => "flow_to_stock",
+            Keyword::StockToFlow => "stock_to_flow",
+            Keyword::PeriodIndicator => "period_indicator",
+            Keyword::Single => "single",
             Keyword::All => "all",
             Keyword::AllMeasures => "all_measures",
             Keyword::Invalid => "invalid",
@@ -400,6 +420,10 @@ impl Keyword {
             Keyword::AlwaysNull => "always_null",
             Keyword::AlwaysZero => "always_zero",
             Keyword::Dataset => "dataset",
+            Keyword::Integer => "integer",
+            Keyword::Number => "number",
+            Keyword::String => "string",
+            Keyword::Boolean => "boolean",
             Keyword::DatasetPriority => "dataset_priority",
             Keyword::RulePriority => "rule_priority",
             Keyword::Eval => "eval",
@@ -421,14 +445,8 @@ impl Keyword {
             Keyword::Range => "range",
             Keyword::Valuedomain => "valuedomain",
             Keyword::Components => "components",
-            Keyword::Timeshift => "timeshift",
-            Keyword::FillTimeSeries => "fill_time_series",
-            Keyword::FlowToStock => "flow_to_stock",
-            Keyword::StockToFlow => "stock_to_flow",
-            Keyword::PeriodIndicator => "period_indicator",
             Keyword::Viral => "viral",
             Keyword::Identifier => "identifier",
-            Keyword::Operator => "operator",
         }
     }
 
@@ -442,7 +460,7 @@ impl Keyword {
 
     /// A word of the whole language that this profile leaves out.
     pub fn is_left_out(self) -> bool
-        ensures { IsTrue result ↔ IsLeftOut self }
+        ensures { result ≡ is_left_out self }
     {
         matches!(
             self,
@@ -465,14 +483,8 @@ impl Keyword {
                 | Keyword::Range
                 | Keyword::Valuedomain
                 | Keyword::Components
-                | Keyword::Timeshift
-                | Keyword::FillTimeSeries
-                | Keyword::FlowToStock
-                | Keyword::StockToFlow
-                | Keyword::PeriodIndicator
                 | Keyword::Viral
                 | Keyword::Identifier
-                | Keyword::Operator
         )
     }
 }

@@ -33,5 +33,5 @@ fn main(rt: HostRuntime) -> ExitCode {
         faults: 0,
     };
     let outcome = run_vtlprod(&rt, &words, &mut shelf, &mut out, &OpenGate);
-    ExitCode::from(outcome.status)
+    ExitCode::from(outcome.into_status())
 }

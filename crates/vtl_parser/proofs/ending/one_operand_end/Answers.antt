@@ -26,3 +26,12 @@ returns-in-Hierarchy c = rw c.in-Hierarchy.is c.hierarchy.ensures
 
 pub returns-in-CheckHierarchy : goal.returns-in-CheckHierarchy
 returns-in-CheckHierarchy c = rw c.in-CheckHierarchy.is c.check_hierarchy.ensures
+
+pub returns-in-Time : goal.returns-in-Time
+returns-in-Time c = rw c.in-Time.is c.time.ensures
+
+pub returns-in-Timeshift : goal.returns-in-Timeshift
+returns-in-Timeshift c = rw c.in-Timeshift.is c.timeshift.ensures
+
+pub returns-in-FillTimeSeries : goal.returns-in-FillTimeSeries
+returns-in-FillTimeSeries c = rw c.in-FillTimeSeries.is c.fill_time_series.ensures

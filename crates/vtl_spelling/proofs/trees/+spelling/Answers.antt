@@ -6,6 +6,7 @@ use Rattle.vtl_syntax.proofs.expr.Expr.TheLaws.{the_size as expr_size}
 use Rattle.vtl_syntax.proofs.expr.JoinOperand.TheLaws.{the_size as operand_size}
 use Rattle.vtl_syntax.specs.declared.expr.Clause.TheViews.{the_lemmas}
 use Rattle.vtl_tokens.specs.declared.keyword.Keyword.TheVariants as words
+use Rattle.vtl_syntax.specs.declared.expr.Expr.{Expr}
 use Rattle.vtl_syntax.specs.declared.expr.Item.{Item}
 use Rattle.vtl_spelling.specs.Kinds.{Kinds, ◌&◌, one, key, comma, commas, open_paren, close_paren, optional, name}
 use Rattle.vtl_spelling.specs.Words.{exists_rows_kind}
@@ -13,7 +14,7 @@ use Rattle.vtl_spelling.specs.Parts.{comp_spelled, rename_spelled, sub_item_spel
 use Rattle.vtl_spelling.specs.Trees.{spelled, clause_spelled, groups_spelled, item_spelled, operand_spelled, range_spelled}
 use Rattle.vtl_spelling.proofs.ClausesTold.{spelling}
 use Rattle.vtl_spelling.proofs.Folds.{folded-Binary, folded-Difference, folded-ExistsIn, clause_folded-Keep, clause_folded-Drop, clause_folded-Rename, clause_folded-Sub, clause_folded-Unpivot}
-use Rattle.vtl_spelling.proofs.Unfolded.{behind, last, items-more, some-more, join-spelled, sets-spelled, substr-spelled, replace-spelled, calc-spelled, aggr-spelled}
+use Rattle.vtl_spelling.proofs.Unfolded.{behind, behind_both, last, items-more, some-more, join-spelled, sets-spelled, substr-spelled, replace-spelled, call_of-spelled, calc-spelled, aggr-spelled}
 use Rattle.vtl_spelling.proofs.trees.+spelling.Goals as goal
 
 pub clause-returns-in_ok-spell-in-Calc : goal.clause-returns-in_ok-spell-in-Calc
@@ -94,8 +95,19 @@ items-loop-next-preserved t c =
     let within : k < length c.args.items.now = c.loop-next-test.true in
     let is = c.next-item.is in
     let more : take (k + 1) c.args.items.now ≡ take k c.args.items.now ++ x ∷ [] = take_more c.args.items.now k x within ∙ ap (λ (y : Item). take k c.args.items.now ++ y ∷ []) (sym is) in (
-      items-more c.args.items.now k x c.loop-next.some c.args.out.now.items c.loop-next.out.items c.comma_behind.new.out.items c.item.new.out.items more c.loop-next.invariant.0 c.loop-next.invariant.1 (c.in_ok-comma_behind.ensures {u = tt}) (c.in_ok-item.ensures {u = tt}),
+      items-more item_spelled c.args.items.now k x c.loop-next.some c.args.out.now.items c.loop-next.out.items c.comma_behind.new.out.items c.item.new.out.items more c.loop-next.invariant.0 c.loop-next.invariant.1 (c.in_ok-comma_behind.ensures {u = tt}) (c.in_ok-item.ensures {u = tt}),
       some-more c.args.items.now k x more,
+    )
+
+pub arguments-loop-next-preserved : goal.arguments-loop-next-preserved
+arguments-loop-next-preserved t c =
+    let k = c.loop-next.next-index in
+    let x = c.next-item.result in
+    let within : k < length c.args.arguments.now = c.loop-next-test.true in
+    let is = c.next-item.is in
+    let more : take (k + 1) c.args.arguments.now ≡ take k c.args.arguments.now ++ x ∷ [] = take_more c.args.arguments.now k x within ∙ ap (λ (y : Expr). take k c.args.arguments.now ++ y ∷ []) (sym is) in (
+      items-more spelled c.args.arguments.now k x c.loop-next.some c.args.out.now.items c.loop-next.out.items c.comma_behind.new.out.items c.expr.new.out.items more c.loop-next.invariant.0 c.loop-next.invariant.1 (c.in_ok-comma_behind.ensures {u = tt}) (c.in_ok-expr.ensures {u = tt}),
+      some-more c.args.arguments.now k x more,
     )
 
 pub join-more_join_operands-requires : goal.join-more_join_operands-requires
@@ -186,3 +198,16 @@ operands-returns-in_ok-more_operands-in-Sets t c =
     let y : Kinds = close_paren in
     let is : spelled c.args.tree.now ≡ x0 ++ (x1 ++ (x2 ++ y)) = rw (c.kind.ensures, c.get-in-Sets.ensures, c.get-in-Sets-2.ensures, c.as_slice.ensures, c.in-Sets.is) (sets-spelled c.in-Sets.function c.in-Sets.first c.in-Sets.second c.in-Sets.others c.in-Sets.place) in
     last c.spell-in-Sets.result o z (spelled c.args.tree.now) (x0 ++ (x1 ++ (x2 ++ y))) is (behind c.spell-in-Sets.result o c.call.new.out.items z x0 (x1 ++ (x2 ++ y)) (c.in_ok-call-in-Sets.ensures {u = tt}) (behind c.spell-in-Sets.result c.call.new.out.items c.next_operand-in-Sets.new.out.items z x1 (x2 ++ y) (c.in_ok-next_operand-in-Sets.ensures {u = tt}) (behind c.spell-in-Sets.result c.next_operand-in-Sets.new.out.items c.more_operands.new.out.items z x2 y (c.in_ok-more_operands-in-Sets.ensures {u = tt}) c.spell-in-Sets.ensures)))
+
+pub operands-returns-in_ok-arguments-in-CallOf : goal.operands-returns-in_ok-arguments-in-CallOf
+operands-returns-in_ok-arguments-in-CallOf t c =
+    let o = c.args.out.now.items in
+    let r = c.spell-in-CallOf.result in
+    let m = c.both.new.out.items in
+    let z = c.spell-in-CallOf.new.out.items in
+    let x0 : Kinds = name c.in-CallOf.name in
+    let x1 : Kinds = open_paren in
+    let x2 : Kinds = commas spelled c.as_slice-in-CallOf.result.now in
+    let y : Kinds = close_paren in
+    let is : spelled c.args.tree.now ≡ x0 ++ (x1 ++ (x2 ++ y)) = rw (c.as_slice-in-CallOf.ensures, c.in-CallOf.is) (call_of-spelled c.in-CallOf.name c.in-CallOf.arguments c.in-CallOf.place) in
+    last r o z (spelled c.args.tree.now) (x0 ++ (x1 ++ (x2 ++ y))) is (behind_both r o m z x0 x1 (x2 ++ y) (c.in_ok-both-in-CallOf.ensures {u = tt}) (behind r m c.arguments.new.out.items z x2 y (c.in_ok-arguments-in-CallOf.ensures {u = tt}) c.spell-in-CallOf.ensures))

@@ -13,3 +13,6 @@ invariant-more_join_operands-loop-operand l = l.out.items ≡ l.initial.out.item
 
 abbrev pub invariant-items-loop-next : goal.invariant-items-loop-next
 invariant-items-loop-next l = (l.out.items ≡ l.initial.out.items ++ commas item_spelled (take l.next-index l.items)) × (l.some ≡ has_some (take l.next-index l.items))
+
+abbrev pub invariant-arguments-loop-next : goal.invariant-arguments-loop-next
+invariant-arguments-loop-next l = (l.out.items ≡ l.initial.out.items ++ commas spelled (take l.next-index l.arguments)) × (l.some ≡ has_some (take l.next-index l.arguments))

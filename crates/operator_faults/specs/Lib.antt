@@ -1,0 +1,9 @@
+pub mod Outlines
+pub mod Firsts
+pub mod Names
+pub mod Calls
+pub mod Bodies
+pub mod Cycles
+pub mod Recursions
+pub mod Sketches
+pub mod Faults

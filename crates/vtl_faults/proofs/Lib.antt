@@ -1,3 +1,0 @@
-pub mod LeftOut
-pub mod Rightly
-pub mod WordTests

@@ -1,4 +1,0 @@
-pub mod Tokens
-pub mod Spellings
-pub mod Layouts
-pub mod Laws

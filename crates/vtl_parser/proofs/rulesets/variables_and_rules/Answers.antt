@@ -1,9 +1,0 @@
-use Rattle.std.proofs.Common.{◌≡◌, max, refl, arith}
-use Rattle.vtl_parser.specs.RuleParts.{variables_of}
-use Rattle.vtl_parser.proofs.ShownDeep.{shown_deep}
-use Rattle.vtl_parser.proofs.rulesets.variables_and_rules.Goals as goal
-
-pub returns : goal.returns
-returns g c =
-    let levels : max 0 (max 0 (max 0 (max 0 c.in_ok-rules.levels))) ≡ c.in_ok-rules.levels = omega arith in
-    shown_deep (variables_of g.T.ParseRule.rule g.T.ParseRule.of) _ _ _ _ (rw (c.in_ok-sign.ensures, c.in_ok-word.ensures, c.in_ok-variables.ensures.reads, c.in_ok-sign-2.ensures, c.in_ok-rules.ensures.reads, levels, c.in_ok-variables.ensures.shows, c.in_ok-rules.ensures.shows) refl)
