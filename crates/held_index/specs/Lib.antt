@@ -1,6 +1,7 @@
 pub mod Drafts
 pub mod Holdings
 pub mod Places
+pub mod Reach
 pub mod Rules
 pub mod SumLaws
 pub mod Sums

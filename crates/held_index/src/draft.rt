@@ -35,6 +35,7 @@ impl Model for Draft {
 }
 
 impl Draft {
+    /// Nothing noted yet.
     pub fn new(alloc: Global) -> Draft
         ensures { result ≡ drafts.nothing }
     {

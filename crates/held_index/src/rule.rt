@@ -1,8 +1,11 @@
 // The trait of delta rules.
-ghost use Rattle.std.specs.Prelude.{◌≡◌, ◌≤◌, ℕ, List, map, length};
+ghost use Rattle.std.specs.Prelude.{◌≡◌, ◌+◌, ◌≤◌, ℕ, List, map, length};
 ghost use Rattle.std.specs.Arc.{arc_value};
 ghost use Rattle.vtl_values.specs.declared.structure.Component.{Component};
+ghost use Rattle.point_sets.specs.Changes.{Changes};
 ghost use Rattle.point_sets.specs.DataSets.{DataSet};
+ghost use Rattle.held_index.specs.Holdings.{Holding};
+ghost use Rattle.held_index.specs.Reach.{changes_in};
 ghost use Rattle.held_index.specs.Rules.{SetOutcome, IsRightAnswer};
 ghost use Rattle.held_index.specs.declared.want.Want.{Want as WantedOperand};
 ghost use denote.Param.Send.{IsSync};
@@ -36,6 +39,9 @@ pub trait DeltaRule {
     /// The structure of its result.
     ghost structure: { Self → List Component };
 
+    /// How many steps it takes at most, for what is held and the news of all operands.
+    ghost reach: { Self → List Holding → List Changes → ℕ };
+
     fn wants(&self) -> &[Want]
         ensures { result.now ≡ wanted self.now };
 
@@ -43,7 +49,8 @@ pub trait DeltaRule {
         ensures { result.now ≡ structure self.now };
 
     /// The delta of the result, where it had so many points before. `held` are in the order of the wants, and `news`
-    /// in that of the operands. The rule may want memory, whatever the right answer is.
+    /// in that of the operands. The rule may want memory, whatever the right answer is. Whatever it answers, it takes
+    /// no more steps than its reach.
     fn delta<R: Threads + Sync, L: Ledger>(
         &self,
         rt: &R,
@@ -57,6 +64,10 @@ pub trait DeltaRule {
         requires held { length held.now ≡ length (wanted self.now) }
         requires news { length news.now ≡ arity self.now }
         requires few { before ≤ POINT_LIMIT }
-        ensures { IsRightAnswer (admits self.now) (meaning self.now) (wanted self.now) held.now
-            (map arc_value news.now) before result };
+        ensures answer { IsRightAnswer (admits self.now) (meaning self.now) (wanted self.now) held.now
+            (map arc_value news.now) before result }
+        ensures steps { steps.new ≤ steps.old + reach self.now held.now (map arc_value news.now) };
+
+    /// Without a change it takes no step.
+    ghost rests: { (rule : Self) (held : List Holding) (news : List Changes) → changes_in news ≡ 0 → reach rule held news ≡ 0 };
 }

@@ -1,3 +1,4 @@
 pub mod Built
 pub mod Found
 pub mod Pairs
+pub mod ReachLemmas

@@ -1,5 +1,5 @@
 // What changes of the operands make of the result.
-ghost use Rattle.std.specs.Prelude.{◌≡◌, ◌++◌, List, IfOk, OnOk};
+ghost use Rattle.std.specs.Prelude.{◌≡◌, ◌+◌, ◌*◌, ◌≤◌, ◌++◌, List, IfOk, OnOk};
 ghost use Rattle.std.specs.Option.{option_copied};
 ghost use Rattle.std.specs.FinMap as finmap;
 ghost use Rattle.vtl_values.specs.declared.value.Value.{Value};
@@ -27,7 +27,8 @@ pub enum Side {
     Right,
 }
 
-/// Notes what the changes of one operand make of the result; the other operand is held, and has news too.
+/// Notes what the changes of one operand make of the result; the other operand is held, and has news too. Each change
+/// takes one look.
 pub fn note_changes<L: Ledger>(
     alloc: Global,
     side: Side,
@@ -37,7 +38,8 @@ pub fn note_changes<L: Ledger>(
     draft: &mut Draft,
     steps: &mut Steps<L>,
 ) -> Result<(), AllocError>
-    ensures { OnOk result (IsPlain other.now.want → (a : DataSet) (ks : List (List Value)) → BeginsAt own.now a → IsNoted side own.now news.now a other.now.content ks draft.old → IsNoted side own.now news.now a other.now.content (ks ++ finmap.keys own.now) draft.new) }
+    ensures noted { OnOk result (IsPlain other.now.want → (a : DataSet) (ks : List (List Value)) → BeginsAt own.now a → IsNoted side own.now news.now a other.now.content ks draft.old → IsNoted side own.now news.now a other.now.content (ks ++ finmap.keys own.now) draft.new) }
+    ensures steps { steps.new ≤ steps.old + 2 * finmap.len own.now }
 {
     for change in own.changes() {
         note_change(alloc, side, change, other, news, draft, steps)?;
@@ -55,7 +57,8 @@ fn note_change<L: Ledger>(
     steps: &mut Steps<L>,
 ) -> Result<(), AllocError>
     requires { IsChange change.now }
-    ensures { OnOk result (IsPlain other.now.want → draft.new ≡ noted_change side change.now news.now other.now.content draft.old) }
+    ensures noted { OnOk result (IsPlain other.now.want → draft.new ≡ noted_change side change.now news.now other.now.content draft.old) }
+    ensures steps { steps.new ≤ steps.old + 2 }
 {
     let before = partner(other, change, steps);
     let after = point_after(news, &change.key, before);
@@ -71,7 +74,8 @@ fn partner<'a, L: Ledger>(
     steps: &mut Steps<L>,
 ) -> Option<&'a Arc<Point>>
     requires { IsChange change.now }
-    ensures { IsPlain other.now.want → values_of (option_copied result) ≡ finmap.get other.now.content change.now.key }
+    ensures found { IsPlain other.now.want → values_of (option_copied result) ≡ finmap.get other.now.content change.now.key }
+    ensures steps { steps.new ≤ steps.old + 2 }
 {
     other.get(point_of(change), steps)
 }

@@ -90,6 +90,8 @@ impl PairRule {
 impl DeltaRule for PairRule {
     ghost use Rattle.std.specs.Prelude.{length};
     ghost use Rattle.operator_meaning.specs.Operators.{meaning_of, AreOperands};
+    ghost use Rattle.pair_ops.specs.Reach.{matching_reach};
+    ghost use Rattle.pair_ops.specs.ReachLaws.{no_reach};
     ghost use Rattle.pair_ops.specs.Rules.{both};
 
     ghost arity = { λ r. length r.operands };
@@ -101,6 +103,10 @@ impl DeltaRule for PairRule {
     ghost wanted = { λ _. both };
 
     ghost structure = { λ r. r.structure };
+
+    ghost reach = { λ r. matching_reach r.operands 0 };
+
+    ghost rests = { λ r. no_reach r.operands 0 };
 
     fn wants(&self) -> &[Want] {
         self.wants.as_slice()

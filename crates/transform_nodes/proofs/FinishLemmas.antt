@@ -1,9 +1,12 @@
 -- What a run comes to in a script.
-use Rattle.std.proofs.Common.{◌≡◌, ℕ, suc, List, [], ◌∷◌, map, length, Bool, true, false, cond, Ok, Result, Option, Some, None, refl, sym, ◌∙◌, ap, subst, slice_get}
+use Rattle.std.proofs.Common.{◌≡◌, ℕ, suc, ◌+◌, ◌≤◌, List, [], ◌∷◌, map, length, Bool, true, false, cond, Ok, Result, Option, Some, None, refl, sym, ◌∙◌, ap, subst, slice_get}
 use Rattle.std.specs.Option.{IfSome, IsSomeAnd}
 use Rattle.std.specs.Arc.{arc_value}
+use Rattle.std.specs.FinMap.{empty_of_len, len}
 use Rattle.std.proofs.lemmas.List.Elements.{All-weaker}
+use Rattle.vtl_values.proofs.Values.{key_cmp-IsTotalOrder, key_cmp-IsAntisymmetric}
 use Rattle.data_model.specs.Deltas.{Leads, BeginsAt, apply}
+use Rattle.data_model.proofs.DeltaLemmas.{Leads-empty}
 use Rattle.point_sets.specs.DataSets.{DataSet}
 use Rattle.point_sets.specs.Changes.{Changes}
 use Rattle.checked_trees.specs.declared.tree.Source.{Source}
@@ -16,6 +19,7 @@ use Rattle.operator_meaning.specs.Scripts.{Has, state_of, states}
 use Rattle.release_text.specs.Releases.{Page, page_of}
 use Rattle.transform_nodes.specs.Carrying.{with_set, page_after, PageBegins, CanRunNode, IsFinished, FinishOn, FinishesRight}
 use Rattle.transform_nodes.specs.Nodes.{AreInputs, operand_on, numbered, AllHave, AllLead, published, WorksOut, HasSameParts, StandsAs, settled_tree, settled_pages, WorkStandsFor, IsRight, FinishFor}
+use Rattle.transform_nodes.specs.Reach.{StaysWithin, tree_reach, work_reach}
 use Rattle.transform_nodes.specs.Runs.{Moves, IsRunnable, RanOne}
 use Rattle.transform_nodes.specs.Trees.{Plain, plain, expression, StandsOn, applied, forgotten, IsFit}
 use Rattle.transform_nodes.specs.declared.node.Node.{Node}
@@ -53,6 +57,10 @@ page_shows false page = tt
 page-after : (b : Bool) (d : Changes) (page : Page) (y : DataSet) → apply d page.set ≡ y → page_after d (cond b (Some page) None) ≡ cond b (Some (with_set y page)) None
 page-after true d page y e = ap (λ (x : DataSet). Some (with_set x page)) e
 page-after false d page y e = refl
+
+-- without a change the page stays
+pub unchanged : (d : Changes) (page : Page) → len d ≡ 0 → page ≡ with_set (apply d page.set) page
+unchanged d page none = ap (λ (x : DataSet). with_set x page) (sym (ap (λ (e : Changes). apply e page.set) (empty_of_len d none) ∙ (Leads-empty key_cmp-IsTotalOrder key_cmp-IsAntisymmetric page.set).ends))
 
 -- a delta that begins at a result begins at the page that shows it
 pub page-begins : (pages : Option Page) (d : Changes) (v : Evaluated) {r : Result Evaluated Wrong} → r ≡ Ok v → IfSome pages (λ q. (u : Evaluated) → r ≡ Ok u → q.set ≡ u.set) → BeginsAt d v.set → PageBegins d pages
@@ -164,6 +172,12 @@ module _ (s : Script) (w : Work) (xs ys : List DataSet) (h : WorkStandsFor s w x
       pages_show s xs ys news h.checked h.old_inputs h.new_inputs node settled_stands have_news news_lead (plain node.tree) tree_alone,
     ),
   )
+
+  pub run_within : (start end : ℕ) → StaysWithin news (plain node.tree) start end → end ≤ start + work_reach s w xs ys
+  run_within start end within =
+      subst (λ (ns : List Source). end ≤ start + tree_reach (numbered s xs ns) (numbered s ys ns) (settled_tree w.settle (plain w.node.tree))) same.sources
+      (subst (λ (p : Plain). end ≤ start + tree_reach (numbered s xs node.sources) (numbered s ys node.sources) p) tree (within (moves s h.checked node.sources xs ys news h.old_inputs h.new_inputs news_lead)
+      (node_runnable s xs ys news h.checked h.old_inputs h.new_inputs node settled_stands have_news news_lead (plain node.tree) tree_alone)))
 
   -- the node after its run
   module _ (after : Node) (parts : HasSameParts node after) (kept : forgotten (plain after.tree) ≡ forgotten (plain node.tree)) (pages_stay : after.pages ≡ node.pages) where

@@ -5,6 +5,7 @@ pub mod RuleLemmas
 pub mod WorkLemmas
 pub mod TreeLemmas
 pub mod ChildLemmas
+pub mod ReachLemmas
 pub mod WorldLemmas
 pub mod FinishLemmas
 pub mod BuildLemmas

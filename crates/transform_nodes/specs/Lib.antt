@@ -6,4 +6,6 @@ pub mod Settling
 pub mod Runs
 pub mod Nodes
 pub mod Carrying
+pub mod Reach
+pub mod ReachLaws
 pub mod Building

@@ -1,6 +1,7 @@
 // News are carried through a tree.
 ghost use Rattle.std.specs.Prelude.{◌≡◌, ◌++◌, ◌∷◌, ◌+◌, [], IfOk, OnOk, map, length};
 ghost use Rattle.std.specs.Arc.{arc_value};
+ghost use Rattle.transform_nodes.specs.Reach.{AllStayWithin, StaysWithin};
 ghost use Rattle.transform_nodes.specs.Trees.{IsFit, AllFit, counted, forgotten, all_forgotten, plain, plain_tree, plains_of};
 ghost use Rattle.transform_nodes.specs.Runs.{CanRunTree, CanRunAll, RunsRight, RunAllRight};
 ghost use denote.Param.Send.{IsSync};
@@ -78,6 +79,7 @@ pub(crate) fn run_child<R: Threads + Sync, L: Ledger>(
     requires can { CanRunTree (map arc_value sources.now) (plain child.old) }
     ensures kept { forgotten (plain child.new) ≡ forgotten (plain child.old) }
     ensures right { RunsRight (map arc_value sources.now) (plain child.old) (plain child.new) result }
+    ensures steps { StaysWithin (map arc_value sources.now) (plain child.old) steps.old steps.new }
 {
     match mem::replace(child, Child::Name(0)) {
         Child::Name(number) => {
@@ -107,6 +109,7 @@ fn run_tree<R: Threads + Sync, L: Ledger>(
     requires can { CanRunTree (map arc_value sources.now) (plain_tree tree.old) }
     ensures kept { forgotten (plain_tree tree.new) ≡ forgotten (plain_tree tree.old) }
     ensures right { RunsRight (map arc_value sources.now) (plain_tree tree.old) (plain_tree tree.new) result }
+    ensures steps { StaysWithin (map arc_value sources.now) (plain_tree tree.old) steps.old steps.new }
 {
     let all = run_children(rt, alloc, &mut tree.children, sources, steps)?;
     let worked = work(
@@ -137,6 +140,7 @@ fn run_children<R: Threads + Sync, L: Ledger>(
     ensures kept { all_forgotten (plains_of (map plain children.new.items)) ≡ all_forgotten (plains_of (map plain children.old.items)) }
     ensures count { IfOk result (λ all. length all.news.items ≡ length children.old.items) }
     ensures right { RunAllRight (map arc_value sources.now) (map plain children.old.items) (map plain children.new.items) result }
+    ensures steps { AllStayWithin (map arc_value sources.now) (plains_of (map plain children.old.items)) steps.old steps.new }
 {
     let mut all = Gathered {
         news: Vec::new(alloc),

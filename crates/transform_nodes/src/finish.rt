@@ -2,8 +2,10 @@
 ghost use Rattle.std.specs.Prelude.{◌≡◌, IfOk, length, map};
 ghost use Rattle.std.specs.Arc.{arc_value};
 ghost use Rattle.std.specs.List.{All};
-ghost use Rattle.transform_nodes.specs.Carrying.{page_after, CanRunNode, ComesOutRight, FinishesRight, IsStopped, PageBegins};
+ghost use Rattle.data_model.specs.Deltas.{apply, BeginsAt};
+ghost use Rattle.transform_nodes.specs.Carrying.{page_after, with_set, CanRunNode, ComesOutRight, FinishesRight, IsStopped, PageBegins};
 ghost use Rattle.transform_nodes.specs.Nodes.{HasSameParts};
+ghost use Rattle.transform_nodes.specs.Reach.{StaysWithin};
 ghost use Rattle.transform_nodes.specs.Trees.{forgotten, plain, IsFit};
 ghost use denote.Param.Send.{IsSync};
 
@@ -20,6 +22,17 @@ use std::sync::Arc;
 use std::sync::ledger::Ledger;
 use std::thread::Threads;
 
+/// Pages after a delta. Where nothing changes they are shared, and none is made.
+fn changed(pages: &Pages, delta: &Delta) -> Result<Pages, AllocError>
+    requires { BeginsAt delta.now pages.now.set }
+    ensures { IfOk result (λ after. after ≡ with_set (apply delta.now pages.now.set) pages.now) }
+{
+    if delta.changes().is_empty() {
+        return pages.copy();
+    }
+    pages.after(delta)
+}
+
 /// The pages after a delta.
 fn pages_after(pages: &Option<Pages>, delta: &Delta) -> Result<Option<Pages>, AllocError>
     requires { PageBegins delta.now pages.now }
@@ -27,7 +40,7 @@ fn pages_after(pages: &Option<Pages>, delta: &Delta) -> Result<Option<Pages>, Al
 {
     match pages {
         None => Ok(None),
-        Some(pages) => Ok(Some(pages.after(delta)?)),
+        Some(pages) => Ok(Some(changed(pages, delta)?)),
     }
 }
 
@@ -90,6 +103,7 @@ impl Node {
         ensures kept { forgotten (plain self.new.tree) ≡ forgotten (plain self.old.tree) }
         ensures pages { self.new.pages ≡ self.old.pages }
         ensures right { FinishesRight (map arc_value news.now) self.old self.new result }
+        ensures steps { StaysWithin (map arc_value news.now) (plain self.old.tree) steps.old steps.new }
     {
         match self.work_out(rt, alloc, news, steps) {
             Ok(finish) => finish,
@@ -111,6 +125,7 @@ impl Node {
         ensures kept { forgotten (plain self.new.tree) ≡ forgotten (plain self.old.tree) }
         ensures pages { self.new.pages ≡ self.old.pages }
         ensures right { ComesOutRight (map arc_value news.now) self.old self.new result }
+        ensures steps { StaysWithin (map arc_value news.now) (plain self.old.tree) steps.old steps.new }
     {
         let ran = run_child(rt, alloc, &mut self.tree, news, steps)?;
         let pages = pages_after(&self.pages, &ran.delta)?;

@@ -1,9 +1,9 @@
 // The work of one operator.
-ghost use Rattle.std.specs.Prelude.{◌≡◌, ◌≤◌, ◌<◌, ◌&&◌, ℕ, List, IfOk, All, map, length, count_by, is_some, is_none};
+ghost use Rattle.std.specs.Prelude.{◌≡◌, ◌+◌, ◌≤◌, ◌<◌, ◌&&◌, ℕ, List, IfOk, All, map, length, count_by, is_some, is_none};
 ghost use Rattle.std.specs.Arc.{arc_value};
 ghost use Rattle.data_model.specs.Deltas.{count_after};
 ghost use Rattle.point_sets.specs.DataSets.{DataSet};
-ghost use Rattle.transform_nodes.specs.Rules.{operator_of, wanted_of};
+ghost use Rattle.transform_nodes.specs.Rules.{operator_of, reach_of, wanted_of};
 ghost use Rattle.transform_nodes.specs.Runs.{planned, CanPlan, IsWork, WorksRight};
 ghost use denote.Param.Send.{IsSync};
 
@@ -63,7 +63,8 @@ pub(crate) fn work<R: Threads + Sync, L: Ledger>(
     requires news { length news.now ≡ length (operator_of rule.now).operands }
     requires few { before ≤ POINT_LIMIT }
     requires can { (zs ys : List DataSet) × IsWork rule.now held.now (map arc_value news.now) before zs ys }
-    ensures { WorksRight rule.now place held.now (map arc_value news.now) before result }
+    ensures right { WorksRight rule.now place held.now (map arc_value news.now) before result }
+    ensures steps { steps.new ≤ steps.old + reach_of rule.now held.now (map arc_value news.now) }
 {
     match rule.delta(rt, alloc, before, held, news, steps) {
         Ok(delta) => {

@@ -44,7 +44,8 @@ impl Rule {
 impl DeltaRule for Rule {
     ghost use Rattle.std.specs.Prelude.{length};
     ghost use Rattle.operator_meaning.specs.Operators.{meaning_of, AreOperands};
-    ghost use Rattle.transform_nodes.specs.Rules.{operator_of, wanted_of};
+    ghost use Rattle.transform_nodes.specs.ReachLaws.{no_rule_reach};
+    ghost use Rattle.transform_nodes.specs.Rules.{operator_of, reach_of, wanted_of};
 
     ghost arity = { λ r. length (operator_of r).operands };
 
@@ -55,6 +56,10 @@ impl DeltaRule for Rule {
     ghost wanted = { wanted_of };
 
     ghost structure = { λ r. (operator_of r).structure };
+
+    ghost reach = { reach_of };
+
+    ghost rests = { no_rule_reach };
 
     fn wants(&self) -> &[Want] {
         match self {

@@ -78,16 +78,20 @@ impl Model for Done {
 }
 
 impl Work {
-    ghost use Rattle.std.specs.Prelude.{List};
+    ghost use Rattle.std.specs.Prelude.{List, ◌+◌, ◌≤◌, map};
+    ghost use Rattle.std.specs.Arc.{arc_value};
+    ghost use Rattle.held_index.specs.Reach.{changes_in};
     ghost use Rattle.point_sets.specs.DataSets.{DataSet};
     ghost use Rattle.checked_trees.specs.Scripts.{Script};
     ghost use Rattle.transform_nodes.specs.Nodes.{CanRun, DoneStandsFor, WorkStandsFor};
+    ghost use Rattle.transform_nodes.specs.Reach.{work_reach};
     ghost use Rattle.transform_nodes.specs.declared.work.Finish.TheVariants.{GaveUp};
     ghost use denote.Param.Send.{IsSync};
 
     /// Settles the node, and carries the news through its tree. Where the statement has a data set on the new inputs,
     /// the done has its right change, unless memory is wanting; where it has a fault of its own there, the done has
-    /// that. Whichever inputs the work stands for, the done stands for.
+    /// that. Whichever inputs the work stands for, the done stands for. It takes no more steps than the reaches of its
+    /// operators together, and none where there is no change.
     pub fn run<R: Threads + Sync, L: Ledger>(
         self,
         rt: &R,
@@ -101,6 +105,8 @@ impl Work {
         ensures base { result.base ≡ self.base }
         ensures to { result.to ≡ self.to }
         ensures stands { (s : Script) (xs ys : List DataSet) → WorkStandsFor s self xs ys → DoneStandsFor s result xs ys }
+        ensures steps { (s : Script) (xs ys : List DataSet) → WorkStandsFor s self xs ys → steps.new ≤ steps.old + work_reach s self xs ys }
+        ensures rests { changes_in (map arc_value self.news.items) ≡ 0 → steps.new ≤ steps.old }
     {
         let Work {
             round,

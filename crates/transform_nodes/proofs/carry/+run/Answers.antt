@@ -9,6 +9,7 @@ use Rattle.point_sets.specs.Changes.{Changes}
 use Rattle.point_sets.specs.declared.delta.Delta.{Delta}
 use Rattle.operator_meaning.specs.Results.{sets_of}
 use Rattle.transform_nodes.specs.Trees.{Plain, Source, Operates, plains_of, plain, plain_tree, IsFit}
+use Rattle.transform_nodes.specs.Reach.{StaysWithin}
 use Rattle.transform_nodes.specs.Runs.{CanRunTree, RanOne, RanAll, RunsRight}
 use Rattle.transform_nodes.specs.declared.carry.Ran.{Ran}
 use Rattle.transform_nodes.specs.declared.node.Child.TheVariants.{Name, Tree}
@@ -16,6 +17,7 @@ use Rattle.transform_nodes.specs.declared.node.OpTree.{OpTree}
 use Rattle.transform_nodes.proofs.PlainLemmas.{plain-Name, plain-Tree}
 use Rattle.transform_nodes.proofs.WorkLemmas.{news_at}
 use Rattle.transform_nodes.proofs.TreeLemmas.{ran_none, name_right, operands_runnable, operands_wrong, tree_work, tree_wrong, tree_right, work_along, works_along}
+use Rattle.transform_nodes.proofs.ReachLemmas.{some_reach, steps_asked, steps_below, steps_more}
 use Rattle.transform_nodes.proofs.ChildLemmas.{count_children, fits_child, kept_child, runnable_child, wrong_child, more_children}
 use Rattle.transform_nodes.proofs.carry.+run.Goals as goal
 
@@ -52,6 +54,7 @@ run_children-loop-i-init g t c =
       kept = refl;
       count = ap length items;
       ran = λ m can. subst (λ (ts : List (Arc Delta Global)). RanAll ds m [] [] (map arc_value ts) 0) (sym items) (ran_none ds m);
+      steps = λ m can. omega arith;
     }
 
 pub run_children-run_child-requires-clause-fit : goal.run_children-run_child-requires-clause-fit
@@ -108,6 +111,7 @@ run_children-loop-i-preserved g t c =
       ran = λ m can. subst (λ (ds : List Changes). RanAll news m (take (i + 1) (map plain ks0)) (take (i + 1) (map plain (set ks i new))) ds total)
           (sym (ap (map arc_value) items ∙ map-append arc_value c.loop-i.all.news.items (ran.delta ∷ [])))
           (more_children ks0 ks i k new within long c.index_mut.ensures.value same news m can (map arc_value c.loop-i.all.news.items) c.loop-i.all.points (c.loop-i.invariant.ran m can) ran total c.in_ok-ran.ensures.right c.in_ok-push.ensures.points);
+      steps = λ m can. steps_more m.old m.new ks0 i k c.args.steps.now c.loop-i.steps c.run_child.new.steps within (c.index_mut.ensures.value ∙ same) (c.loop-i.invariant.steps m can) (c.in_ok-ran.ensures.steps m (runnable_child ks0 ks i k new within long c.index_mut.ensures.value same news m can));
     }
 
 pub run_children-returns-clause-right : goal.run_children-returns-clause-right
@@ -168,7 +172,7 @@ run_tree-returns-in_err-worked-clause-right g t c = λ m can.
     let ran = c.in_ok-all.ensures.right m (operands_runnable tree.rule tree.place ps qs tree.held.items tree.points tree.pending.items tree.pending_points news m can) in
     let halt = c.in_err-worked.field-0.0 in
     let work = tree_work tree.rule tree.place ps qs tree.held.items tree.points tree.pending.items tree.pending_points news m can ds c.in_ok-all.all.points ran in
-    let right = works_along tree.rule tree.place c.as_slice.result.now tree.held.items (map arc_value c.as_slice-2.result.now) ds tree.points (Err halt) c.as_slice.ensures.value (ap (map arc_value) c.as_slice-2.ensures.value) c.in_err-worked.ensures in
+    let right = works_along tree.rule tree.place c.as_slice.result.now tree.held.items (map arc_value c.as_slice-2.result.now) ds tree.points (Err halt) c.as_slice.ensures.value (ap (map arc_value) c.as_slice-2.ensures.value) c.in_err-worked.ensures.right in
     rw (p.1, p.2) (tree_wrong tree.rule tree.place ps qs tree.held.items tree.points tree.pending.items tree.pending_points news m can ds c.in_ok-all.all.points ran work.holds.made halt (right (sets_of ran.before) (sets_of ran.after) work))
 
 pub run_tree-returns-clause-right : goal.run_tree-returns-clause-right
@@ -181,7 +185,75 @@ run_tree-returns-clause-right g t c = λ m can.
     let ran = c.in_ok-all.ensures.right m (operands_runnable tree.rule tree.place ps qs tree.held.items tree.points tree.pending.items tree.pending_points news m can) in
     let w = c.in_ok-worked.worked in
     let work = tree_work tree.rule tree.place ps qs tree.held.items tree.points tree.pending.items tree.pending_points news m can ds c.in_ok-all.all.points ran in
-    let right = works_along tree.rule tree.place c.as_slice.result.now tree.held.items (map arc_value c.as_slice-2.result.now) ds tree.points (Ok w) c.as_slice.ensures.value (ap (map arc_value) c.as_slice-2.ensures.value) c.in_ok-worked.ensures in
+    let right = works_along tree.rule tree.place c.as_slice.result.now tree.held.items (map arc_value c.as_slice-2.result.now) ds tree.points (Ok w) c.as_slice.ensures.value (ap (map arc_value) c.as_slice-2.ensures.value) c.in_ok-worked.ensures.right in
     let done = tree_right tree.rule tree.place ps qs tree.held.items tree.points tree.pending.items tree.pending_points news m can ds c.in_ok-all.all.points ran w c.keep.result.points (right (sets_of ran.before) (sets_of ran.after) work) c.in_ok-all.ensures.kept c.keep.ensures.points in
     subst (λ (k : OpTree). RanOne news m (plain_tree tree) (plain_tree k) (arc_value c.keep.result.delta) c.keep.result.points) (sym c.keep.ensures.tree)
     (subst (λ (d : Arc Delta Global). RanOne news m (plain_tree tree) (Operates tree.rule tree.place (plains_of qs) tree.held.items tree.points w.patches.items w.points) (arc_value d) c.keep.result.points) (sym c.keep.ensures.delta) done)
+
+-- ---- steps
+
+pub run_child-returns-in-Tree-clause-steps : goal.run_child-returns-in-Tree-clause-steps
+run_child-returns-in-Tree-clause-steps g t c =
+    let e : plain c.args.child.now ≡ plain_tree c.in-Tree.tree = ap plain (sym c.replace.ensures.value) ∙ ap plain c.in-Tree.is ∙ plain-Tree c.in-Tree.tree in
+    subst (λ (p : Plain). StaysWithin (map arc_value c.args.sources.now) p c.args.steps.now c.run_tree-result.new.steps) (sym e) c.run_tree-result.ensures.steps
+
+pub run_children-returns-in_err-ran-clause-steps : goal.run_children-returns-in_err-ran-clause-steps
+run_children-returns-in_err-ran-clause-steps g t c = λ m can.
+    let within : c.loop-i.i < length c.args.children.now.items = omega arith in
+    let ks0 = c.args.children.now.items in
+    let i = c.loop-i.i in
+    let k = c.index_mut.result.now in
+    let same = c.loop-i.invariant.unvisited.1 i k (omega arith) in
+    let one = c.in_err-ran.ensures.steps m (runnable_child ks0 c.loop-i.children.items i k k within c.loop-i.invariant.unvisited.0 c.index_mut.ensures.value same (map arc_value c.args.sources.now) m can) in
+    let so_far = steps_more m.old m.new ks0 i k c.args.steps.now c.loop-i.steps c.run_child.new.steps within (c.index_mut.ensures.value ∙ same) (c.loop-i.invariant.steps m can) one in
+    let some = some_reach m.old m.new (map plain ks0) (i + 1) in
+    omega (arith, so_far, some)
+
+pub run_children-returns-in_err-push-clause-steps : goal.run_children-returns-in_err-push-clause-steps
+run_children-returns-in_err-push-clause-steps g t c = λ m can.
+    let within : c.loop-i.i < length c.args.children.now.items = omega arith in
+    let ks0 = c.args.children.now.items in
+    let i = c.loop-i.i in
+    let k = c.index_mut.result.now in
+    let same = c.loop-i.invariant.unvisited.1 i k (omega arith) in
+    let one = c.in_ok-ran.ensures.steps m (runnable_child ks0 c.loop-i.children.items i k k within c.loop-i.invariant.unvisited.0 c.index_mut.ensures.value same (map arc_value c.args.sources.now) m can) in
+    let so_far = steps_more m.old m.new ks0 i k c.args.steps.now c.loop-i.steps c.run_child.new.steps within (c.index_mut.ensures.value ∙ same) (c.loop-i.invariant.steps m can) one in
+    let some = some_reach m.old m.new (map plain ks0) (i + 1) in
+    omega (arith, so_far, some)
+
+pub run_children-returns-clause-steps : goal.run_children-returns-clause-steps
+run_children-returns-clause-steps g t c = λ m can.
+    let so_far = c.loop-i.invariant.steps m can in
+    let some = some_reach m.old m.new (map plain c.args.children.now.items) c.loop-i.i in
+    omega (arith, so_far, some)
+
+pub run_tree-returns-in_err-all-clause-steps : goal.run_tree-returns-in_err-all-clause-steps
+run_tree-returns-in_err-all-clause-steps g t c = λ m can.
+    let tree = c.args.tree.now in
+    let ps = map plain tree.children.items in
+    let runnable = operands_runnable tree.rule tree.place ps ps tree.held.items tree.points tree.pending.items tree.pending_points (map arc_value c.args.sources.now) m can in
+    steps_below tree.rule tree.place ps ps tree.held.items tree.points tree.pending.items tree.pending_points m.old m.new c.args.steps.now c.run_children.new.steps (c.in_err-all.ensures.steps m runnable)
+
+pub run_tree-returns-in_err-worked-clause-steps : goal.run_tree-returns-in_err-worked-clause-steps
+run_tree-returns-in_err-worked-clause-steps g t c = λ m can.
+    let tree = c.args.tree.now in
+    let ps = map plain tree.children.items in
+    let qs = map plain c.run_children.new.children.items in
+    let news = map arc_value c.args.sources.now in
+    let ds = map arc_value c.in_ok-all.all.news.items in
+    let runnable = operands_runnable tree.rule tree.place ps qs tree.held.items tree.points tree.pending.items tree.pending_points news m can in
+    steps_asked tree.rule tree.place ps qs tree.held.items tree.points tree.pending.items tree.pending_points news m ds c.in_ok-all.all.points (c.in_ok-all.ensures.right m runnable)
+    c.as_slice.result.now (map arc_value c.as_slice-2.result.now) c.args.steps.now c.run_children.new.steps c.work.new.steps c.as_slice.ensures.value (ap (map arc_value) c.as_slice-2.ensures.value)
+    (c.in_ok-all.ensures.steps m runnable) c.in_err-worked.ensures.steps
+
+pub run_tree-returns-clause-steps : goal.run_tree-returns-clause-steps
+run_tree-returns-clause-steps g t c = λ m can.
+    let tree = c.args.tree.now in
+    let ps = map plain tree.children.items in
+    let qs = map plain c.run_children.new.children.items in
+    let news = map arc_value c.args.sources.now in
+    let ds = map arc_value c.in_ok-all.all.news.items in
+    let runnable = operands_runnable tree.rule tree.place ps qs tree.held.items tree.points tree.pending.items tree.pending_points news m can in
+    steps_asked tree.rule tree.place ps qs tree.held.items tree.points tree.pending.items tree.pending_points news m ds c.in_ok-all.all.points (c.in_ok-all.ensures.right m runnable)
+    c.as_slice.result.now (map arc_value c.as_slice-2.result.now) c.args.steps.now c.run_children.new.steps c.work.new.steps c.as_slice.ensures.value (ap (map arc_value) c.as_slice-2.ensures.value)
+    (c.in_ok-all.ensures.steps m runnable) c.in_ok-worked.ensures.steps

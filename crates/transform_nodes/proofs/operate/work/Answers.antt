@@ -20,21 +20,21 @@ plan_all-requires-clause-can g c =
     subst (λ (ws : List Want). CanPlan ws c.args.held.now news) (sym c.wants.ensures)
     (can_plan c.args.rule.now c.args.held.now news c.args.before can.0 can.1 can.2 (length-map c.args.news.now arc_value ∙ c.requires.news))
 
-pub returns-in-Ok-new : goal.returns-in-Ok-new
-returns-in-Ok-new g c = λ zs ys work.
+pub returns-in-Ok-new-clause-right : goal.returns-in-Ok-new-clause-right
+returns-in-Ok-new-clause-right g c = λ zs ys work.
     let rule = c.args.rule.now in
     let held = c.args.held.now in
     let news = map arc_value c.args.news.now in
     let before = c.args.before in
     work_right rule held news before zs ys work (record { delta = c.in-Ok-new.delta; patches = c.in_ok-patches-in-Ok.patches; points = c.count_after-points.result }) c.in-Ok.delta
-    (length-map c.args.news.now arc_value ∙ c.requires.news) (c.in-Ok.ensures zs work.holds.made (asked rule held news before zs ys work)) c.in-Ok-new.ensures.ok
+    (length-map c.args.news.now arc_value ∙ c.requires.news) (c.in-Ok.ensures.answer zs work.holds.made (asked rule held news before zs ys work)) c.in-Ok-new.ensures.ok
     (c.in_ok-patches-in-Ok.ensures ∙ ap (λ (ws : List Want). planned ws held news) c.wants.ensures)
     c.count_after-points.ensures
 
-pub returns-in-Err : goal.returns-in-Err
-returns-in-Err g c = λ zs ys work.
+pub returns-in-Err-clause-right : goal.returns-in-Err-clause-right
+returns-in-Err-clause-right g c = λ zs ys work.
     let rule = c.args.rule.now in
     let held = c.args.held.now in
     let news = map arc_value c.args.news.now in
     let before = c.args.before in
-    rw c.at.ensures (work_stop rule held news before zs ys work c.args.place c.in-Err.stop (c.in-Err.ensures zs work.holds.made (asked rule held news before zs ys work)))
+    rw c.at.ensures (work_stop rule held news before zs ys work c.args.place c.in-Err.stop (c.in-Err.ensures.answer zs work.holds.made (asked rule held news before zs ys work)))

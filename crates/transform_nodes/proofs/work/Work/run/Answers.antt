@@ -1,7 +1,8 @@
-use Rattle.std.proofs.Common.{length, map, sym, ◌∙◌, ap}
+use Rattle.std.proofs.Common.{length, map, sym, ◌∙◌, ap, arith}
 use Rattle.std.specs.Arc.{arc_value}
 use Rattle.std.proofs.lemmas.List.{length-map}
-use Rattle.transform_nodes.proofs.FinishLemmas.{fits_news, can_run, done_stands, done_finish}
+use Rattle.transform_nodes.proofs.FinishLemmas.{fits_news, can_run, run_within, done_stands, done_finish}
+use Rattle.transform_nodes.proofs.ReachLemmas.{work_rests}
 use Rattle.transform_nodes.proofs.work.Work.run.Goals as goal
 
 pub run-finish-requires-clause-fit : goal.run-finish-requires-clause-fit
@@ -30,3 +31,18 @@ returns-clause-stands g c = λ s xs ys w.
       node_stands = done_stands s c.args.self xs ys w node settled.parts settled.tree settled.pages news are after ran.parts ran.kept ran.pages;
       finish_is = done_finish s c.args.self xs ys w node settled.parts settled.tree settled.pages news are after ran.parts ran.kept ran.pages c.run-finish.result ran.right;
     }
+
+pub returns-clause-steps : goal.returns-clause-steps
+returns-clause-steps g c = λ s xs ys w.
+    let settled = c.settle.ensures in
+    let news = c.as_slice.result.now in
+    run_within s c.args.self xs ys w c.settle.new.self settled.parts settled.tree settled.pages (map arc_value news) (ap (map arc_value) c.as_slice.ensures.value) c.args.steps.now c.run-finish.new.steps c.run-finish.ensures.steps
+
+pub returns-clause-rests : goal.returns-clause-rests
+returns-clause-rests g c = λ none.
+    let settled = c.settle.ensures in
+    let news = c.as_slice.result.now in
+    let stands = c.requires.stands in
+    let within = run_within stands.0 c.args.self stands.1.0 stands.1.1 stands.1.2 c.settle.new.self settled.parts settled.tree settled.pages (map arc_value news) (ap (map arc_value) c.as_slice.ensures.value) c.args.steps.now c.run-finish.new.steps c.run-finish.ensures.steps in
+    let nothing = work_rests stands.0 c.args.self stands.1.0 stands.1.1 stands.1.2 none in
+    omega (arith, within, nothing)
