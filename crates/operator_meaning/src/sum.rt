@@ -37,7 +37,7 @@ fn plus(a: &Value, b: &Value) -> Option<Value>
 pub fn plus_all(alloc: Global, a: &[Value], b: &[Value]) -> Result<Option<Vec<Value>>, AllocError>
     ensures { IfOk result (λ sums. option_map (λ v. v.items) sums ≡ meant.plus_all a.now b.now) }
 {
-    let mut sums = Vec::new(alloc);
+    let mut sums = Vec::with_capacity(alloc, a.len())?;
     for (x, y) in a.iter().zip(b) {
         match plus(x, y) {
             Some(sum) => sums.push(sum)?,

@@ -95,6 +95,14 @@ fn value_in(
     Ok(value)
 }
 
+/// How many of the components are identifiers, or how many are not.
+fn count_of(components: &[Component], identifiers: bool) -> usize {
+    components
+        .iter()
+        .filter(|component| is_identifier(*component) == identifiers)
+        .count()
+}
+
 /// The values of a row's identifiers.
 pub fn key_in(
     alloc: Global,
@@ -104,7 +112,7 @@ pub fn key_in(
     ensures ok { IfOk result (λ values. meant.values_in (key_cells components.now fields.now) ≡ Ok values.items) }
     ensures err { IfErr result (Refuses (meant.values_in (key_cells components.now fields.now))) }
 {
-    let mut values = Vec::new(alloc);
+    let mut values = Vec::with_capacity(alloc, count_of(components, true))?;
     for (n, component) in components.iter().enumerate() {
         if is_identifier(component) {
             values.push(value_in(alloc, component, at(fields, n))?)?;
@@ -122,7 +130,7 @@ pub fn rest_in(
     ensures ok { IfOk result (λ values. meant.values_in (rest_cells components.now fields.now) ≡ Ok values.items) }
     ensures err { IfErr result (Refuses (meant.values_in (rest_cells components.now fields.now))) }
 {
-    let mut values = Vec::new(alloc);
+    let mut values = Vec::with_capacity(alloc, count_of(components, false))?;
     for (n, component) in components.iter().enumerate() {
         if !is_identifier(component) {
             values.push(value_in(alloc, component, at(fields, n))?)?;

@@ -11,4 +11,5 @@ mod BackLemmas
 mod OpenLemmas
 mod NewLemmas
 mod StepLemmas
+mod RunLemmas
 mod AnswerLemmas

@@ -1,5 +1,5 @@
 -- What the changes of inputs lead from and to.
-use Rattle.std.specs.Prelude.{◌≡◌, ◌<◌, ℕ, List, length, slice_index_or, Option, Some, None}
+use Rattle.std.specs.Prelude.{◌≡◌, ◌<◌, ℕ, List, [], ◌∷◌, length, slice_index_or, Option, Some, None}
 use Rattle.std.specs.Arc.{arc_value}
 use Rattle.std.specs.declared.sync.Arc.{Arc}
 use Rattle.std.specs.declared.alloc.Global.{Global}
@@ -12,6 +12,15 @@ use Rattle.revision_judge.specs.Judging.{input}
 use Rattle.round_core.specs.declared.inputs.InputChange.{InputChange}
 use Rattle.round_core.specs.declared.inputs.Inputs.{Inputs}
 
+-- each leads on from where the one before it leads
+abbrev pub LeadsThrough : List Changes → DataSet → DataSet → Type 0
+LeadsThrough [] x y = x ≡ y
+LeadsThrough (d ∷ ds) x y = (z : DataSet) × Leads d x z × LeadsThrough ds z y
+
+-- wherever the first ones lead, the others do
+abbrev pub LeadAlike : List Changes → List Changes → Type 0
+LeadAlike ds es = (x y : DataSet) → LeadsThrough ds x y → LeadsThrough es x y
+
 -- nothing changed, or the change leads from the one to the other
 abbrev pub LeadsOrStays : DataSet → DataSet → Option (Arc Changes Global) → Type 0
 LeadsOrStays x y None = x ≡ y
@@ -20,7 +29,7 @@ LeadsOrStays x y (Some d) = Leads (arc_value d) x y
 -- an input was x at the last release, y as the last round was opened, and is z now
 pub record ChangeKept (x y z : DataSet) (change : InputChange) : Type 0 where
   pub older : LeadsOrStays x y change.older
-  pub newer : Leads change.newer y z
+  pub newer : LeadsThrough change.newer.runs.items y z
 
 -- the change as a round is opened over the input of now
 abbrev pub Carries : InputChange → InputChange → Type 0
@@ -29,7 +38,7 @@ Carries change next = (x y z : DataSet) → ChangeKept x y z change → ChangeKe
 -- the change leads up to now, and there is none from there
 pub record Starts (older : Changes) (next : InputChange) : Type 0 where
   pub older_is : IsSomeAnd next.older (λ d. arc_value d ≡ older)
-  pub newer_is : next.newer ≡ empty
+  pub newer_is : next.newer.runs.items ≡ []
 
 -- all of them do
 pub record AllCarry (changes next : List InputChange) : Type 0 where

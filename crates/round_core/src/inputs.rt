@@ -6,6 +6,7 @@ ghost use Rattle.point_sets.specs.DataSets.{DataSet};
 ghost use Rattle.revision_judge.specs.Judging.{input, inputs_with};
 ghost use Rattle.round_core.specs.Inputs.{ChangeKept, InputsKept, AreEmpty, Carries, Starts, AllCarry, AllClosed};
 
+use crate::runs::Runs;
 use point_sets::{Delta, PointSet, compose};
 use std::alloc::{AllocError, Global};
 use std::sync::Arc;
@@ -15,7 +16,7 @@ use std::sync::Arc;
 #[derive(Drop)]
 pub struct InputChange {
     pub older: Option<Arc<Delta>>,
-    pub newer: Delta,
+    pub newer: Runs,
 }
 
 /// The inputs of now, and how each came to be.
@@ -43,18 +44,17 @@ impl Inputs {
     }
 
     /// Puts a change into the input with this number.
-    pub fn take(&mut self, n: usize, delta: &Delta) -> Result<(), AllocError>
+    pub fn take(&mut self, n: usize, delta: Delta) -> Result<(), AllocError>
         requires sets { n < length self.old.sets.items }
         requires changes { n < length self.old.changes.items }
-        ensures kept { (bases tos nows : List DataSet) (next : DataSet) → InputsKept bases tos nows self.old → Leads delta.now (input nows n) next → OnOk result (InputsKept bases tos (inputs_with nows n next) self.new) }
+        ensures kept { (bases tos nows : List DataSet) (next : DataSet) → InputsKept bases tos nows self.old → Leads delta (input nows n) next → OnOk result (InputsKept bases tos (inputs_with nows n next) self.new) }
         ensures err { (bases tos nows : List DataSet) → InputsKept bases tos nows self.old → OnErr result (InputsKept bases tos nows self.new) }
     {
-        let alloc = *self.sets.allocator();
-        let newer = compose(alloc, &self.changes[n].newer, delta)?;
-        let set = &mut self.sets[n];
-        set.apply(delta)?;
+        let mut set = self.sets[n].copy()?;
+        set.apply(&delta)?;
         let change = &mut self.changes[n];
-        change.newer = newer;
+        change.newer.push(delta)?;
+        self.sets[n] = set;
         Ok(())
     }
 
@@ -87,12 +87,10 @@ impl Inputs {
 fn carried(alloc: Global, change: &InputChange) -> Result<InputChange, AllocError>
     ensures { IfOk result (Carries change.now) }
 {
+    let newer = change.newer.whole()?;
     match &change.older {
-        Some(older) => started(alloc, compose(alloc, older, &change.newer)?),
-        None => {
-            let none = nothing(alloc);
-            started(alloc, compose(alloc, &none, &change.newer)?)
-        }
+        Some(older) => started(alloc, compose(alloc, older, &newer)?),
+        None => started(alloc, newer),
     }
 }
 
@@ -102,21 +100,16 @@ fn started(alloc: Global, older: Delta) -> Result<InputChange, AllocError>
 {
     Ok(InputChange {
         older: Some(Arc::new(alloc, older)?),
-        newer: nothing(alloc),
+        newer: Runs::new(alloc),
     })
-}
-
-/// The change that changes nothing.
-pub fn nothing(alloc: Global) -> Delta
-    ensures { result ≡ finmap.empty }
-{
-    Delta::of(Vec::new(alloc))
 }
 
 /// An empty input never changed.
 fn unchanged(alloc: Global) -> InputChange
     ensures { ChangeKept finmap.empty finmap.empty finmap.empty result }
 {
-    let newer = nothing(alloc);
-    InputChange { older: None, newer }
+    InputChange {
+        older: None,
+        newer: Runs::new(alloc),
+    }
 }

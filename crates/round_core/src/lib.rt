@@ -16,6 +16,7 @@ pub mod limits;
 mod machine;
 mod moves;
 pub mod production;
+mod runs;
 mod slot;
 pub mod stops;
 

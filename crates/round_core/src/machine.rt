@@ -181,7 +181,7 @@ impl Machine {
             &revision,
         )?;
         match ruling {
-            Ruling::Fit { set, delta } => self.accept(by, revision, set, &delta),
+            Ruling::Fit { set, delta } => self.accept(by, revision, set, delta),
             Ruling::Refused(refusal) => self.refuse(by, revision, refusal),
         }
     }
@@ -191,11 +191,11 @@ impl Machine {
         by: u64,
         revision: Revision,
         set: u64,
-        delta: &Delta,
+        delta: Delta,
     ) -> Result<Verdict, AllocError>
         requires kept { KeptMachine self.old }
         requires room { HasRoom self.old revision }
-        requires judged { StandsForJudgement (inputs_now self.old.script (state_of self.old.journal.items)) (Ruling.Fit set delta.now) (judged self.old.script.inputs (inputs_now self.old.script (state_of self.old.journal.items)) revision) }
+        requires judged { StandsForJudgement (inputs_now self.old.script (state_of self.old.journal.items)) (Ruling.Fit set delta) (judged self.old.script.inputs (inputs_now self.old.script (state_of self.old.journal.items)) revision) }
         ensures ok { IfOk result (λ v. Judges self.old by revision v self.new) }
         ensures err { OnErr result (Stays self.old self.new) }
     {

@@ -8,7 +8,8 @@ ghost use Rattle.round_core.specs.Slots.{EachSlot, SameHomes, HandedOn, names_it
 ghost use Rattle.round_core.specs.declared.slot.Slot.{Slot};
 ghost use Rattle.round_core.specs.Steps.{IsPrepared, IsFirstNews, AreFirstNews, IsFirstSlot};
 
-use crate::inputs::{InputChange, nothing};
+use crate::inputs::InputChange;
+use crate::runs::nothing;
 use crate::slot::{Slot, Stage};
 use checked_trees::{CheckedScript, CheckedStatement, Source};
 use point_sets::Delta;

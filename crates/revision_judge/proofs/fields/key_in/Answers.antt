@@ -32,8 +32,8 @@ returns-in_err-value_in-clause-err c =
     let fields = c.args.fields.now in
     let next = chosen-next is_identifier components fields c.loop-n.n c.index-components-n.result c.loop-n-test.true c.index-components-n.is (sym c.is_identifier.ensures ∙ c.if-is_identifier.true) in
     let same = ap (λ (f : RawField). value_in (c.index-components-n.result, f)) (ap field_or_empty c.at.ensures) in
-    passed_on (values_in (key_cells components fields)) c.from_residual.result c.in_err-value_in.field-0.0
+    passed_on (values_in (key_cells components fields)) c.from_residual-in_err-value_in.result c.in_err-value_in.field-0.0
     (read-stops (values_in (key_cells components fields)) c.loop-n.values.items (c.index-components-n.result, field_or_empty (slice_get fields c.loop-n.n)) (chosen is_identifier (drop (c.loop-n.n + 1) components) (drop (c.loop-n.n + 1) fields)) c.in_err-value_in.field-0.0
     (c.loop-n.invariant ∙ ap (λ (cells : List Cell). behind c.loop-n.values.items (values_in cells)) next)
     (subst (λ r. Refuses r c.in_err-value_in.field-0.0) same c.in_err-value_in.ensures.err))
-    c.from_residual.ensures.1
+    c.from_residual-in_err-value_in.ensures.1

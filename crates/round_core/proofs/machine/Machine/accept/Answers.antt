@@ -8,13 +8,13 @@ use Rattle.round_core.proofs.machine.Machine.accept.Goals as goal
 pub take-requires-clause-sets : goal.take-requires-clause-sets
 take-requires-clause-sets c =
     let a = c.args.self.now in
-    let h = fits_so (inputs_now a.script (state_of a.journal.items)) c.args.set c.args.delta.now (judged a.script.inputs (inputs_now a.script (state_of a.journal.items)) c.args.revision) c.requires.judged in
+    let h = fits_so (inputs_now a.script (state_of a.journal.items)) c.args.set c.args.delta (judged a.script.inputs (inputs_now a.script (state_of a.journal.items)) c.args.revision) c.requires.judged in
     (set_below a c.args.revision c.args.set h.next c.requires.kept.sound h.judgement).0
 
 pub take-requires-clause-changes : goal.take-requires-clause-changes
 take-requires-clause-changes c =
     let a = c.args.self.now in
-    let h = fits_so (inputs_now a.script (state_of a.journal.items)) c.args.set c.args.delta.now (judged a.script.inputs (inputs_now a.script (state_of a.journal.items)) c.args.revision) c.requires.judged in
+    let h = fits_so (inputs_now a.script (state_of a.journal.items)) c.args.set c.args.delta (judged a.script.inputs (inputs_now a.script (state_of a.journal.items)) c.args.revision) c.requires.judged in
     (set_below a c.args.revision c.args.set h.next c.requires.kept.sound h.judgement).1
 
 pub returns-in_err-take-clause-err : goal.returns-in_err-take-clause-err
@@ -26,5 +26,5 @@ overflow_add-self c = omega (arith, accepted_few c.args.self.now c.requires.kept
 pub returns-clause-ok : goal.returns-clause-ok
 returns-clause-ok c =
     let a = c.args.self.now in
-    let h = fits_so (inputs_now a.script (state_of a.journal.items)) c.args.set c.args.delta.now (judged a.script.inputs (inputs_now a.script (state_of a.journal.items)) c.args.revision) c.requires.judged in
-    kept_accepted a c.note.new.journal c.take.new.self c.args.by c.args.revision c.args.set c.args.delta.now c.count_fields.result c.requires.kept c.requires.room h (c.in_ok-take.ensures.kept _ _ _ h.next c.requires.kept.sound.inputs h.leads) c.note.ensures.items c.note.ensures.capacity c.count_fields.ensures
+    let h = fits_so (inputs_now a.script (state_of a.journal.items)) c.args.set c.args.delta (judged a.script.inputs (inputs_now a.script (state_of a.journal.items)) c.args.revision) c.requires.judged in
+    kept_accepted a c.note.new.journal c.take.new.self c.args.by c.args.revision c.args.set c.args.delta c.count_fields.result c.requires.kept c.requires.room h (c.in_ok-take.ensures.kept _ _ _ h.next c.requires.kept.sound.inputs h.leads) c.note.ensures.items c.note.ensures.capacity c.count_fields.ensures
