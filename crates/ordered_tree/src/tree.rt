@@ -56,12 +56,14 @@ impl<T: Measured<M> + Drop, M: Measure + Drop> Model for Tree<T, M> {
 }
 
 impl<T: Measured<M> + Drop, M: Measure + Drop> Tree<T, M> {
+    /// No items.
     pub fn new() -> Tree<T, M>
         ensures { result ≡ [] }
     {
         Tree { root: Link::Empty }
     }
 
+    /// How many items there are.
     pub fn len(&self) -> u64
         ensures { result ≡ length self.now }
     {

@@ -45,6 +45,7 @@ impl Model for Delta {
 }
 
 impl Delta {
+    /// The delta of these changes, which stand in the order of their keys.
     pub fn of(changes: Vec<Change>) -> Delta
         requires { AreChanges changes.items }
         ensures { result ≡ of_changes changes.items }

@@ -26,6 +26,7 @@ impl Model for Key {
 }
 
 impl Key {
+    /// The key of these values.
     pub fn of(alloc: Global, values: Vec<Value>) -> Result<Key, AllocError>
         ensures { IfOk result (λ key. key ≡ values.items) }
     {
@@ -34,6 +35,7 @@ impl Key {
         })
     }
 
+    /// The values of the identifiers, in their order.
     pub fn values(&self) -> &[Value]
         ensures { result.now ≡ self.now }
     {

@@ -49,6 +49,7 @@ impl Model for Notes {
 }
 
 impl Notes {
+    /// Nothing noted yet.
     pub fn new(alloc: Global) -> Notes
         ensures { result ≡ finmap.empty }
     {
@@ -72,6 +73,7 @@ impl Notes {
         Ok(())
     }
 
+    /// The delta of what was noted.
     pub fn finish(self, alloc: Global) -> Result<Delta, AllocError>
         ensures { IfOk result (λ delta. delta ≡ self) }
     {

@@ -43,6 +43,7 @@ impl Model for PointSet {
 }
 
 impl PointSet {
+    /// No points.
     pub fn new(alloc: Global) -> PointSet
         ensures { result ≡ finmap.empty }
     {
@@ -52,6 +53,7 @@ impl PointSet {
         }
     }
 
+    /// The point with the key.
     pub fn get(&self, key: &Key) -> Option<&Arc<Point>>
         ensures value { option_map rest_of (option_copied result) ≡ finmap.get self.now key.now }
         ensures key { HasKey key.now (option_copied result) }
@@ -62,6 +64,7 @@ impl PointSet {
         }
     }
 
+    /// How many points there are.
     pub fn count(&self) -> u64
         ensures { result ≡ finmap.len self.now }
     {

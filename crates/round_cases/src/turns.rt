@@ -74,6 +74,7 @@ pub fn take_turn_with_news<R: Threads + Sync>(
     let Verdict::Accepted(2) = production.judge_one(3, news)? else {
         return Err(TurnStop::Unexpected);
     };
+    // Called for its clause, that the journal is legal.
     let _ = production.journal();
     let done = run_work::<R, Brand>(rt, alloc, Blank::new(1), work);
     Ok(production.give(by, done))

@@ -25,6 +25,7 @@ impl Model for Ranks {
 }
 
 impl Ranks {
+    /// The ranks of these codes, lowest first.
     pub fn of(codes: Items<Word>) -> Ranks
         requires { AllPairs (λ a b. a ≢ b) codes }
         ensures { result ≡ codes }
