@@ -1,0 +1,4 @@
+pub mod Laws
+pub mod Replacing
+pub mod Scripts
+pub mod Steps
