@@ -42,7 +42,7 @@ fn copy_all(alloc: Global, structures: &[Structure]) -> Result<Items<Structure>,
 {
     let mut copies = Vec::new(alloc);
     for structure in structures {
-        copies.push(structure.copy(alloc)?)?;
+        copies.push(structure.copy()?)?;
     }
     Ok(Items::from_vec(copies))
 }
@@ -75,7 +75,7 @@ impl PairRule {
         Ok(PairRule {
             pair,
             operands: copy_all(alloc, node.operands.as_slice())?,
-            structure: node.structure.copy(alloc)?,
+            structure: node.structure.copy()?,
             wants: Items::from_vec(wants),
         })
     }

@@ -22,7 +22,7 @@ pub(crate) fn id_and_me(alloc: Global) -> Result<Structure, AllocError>
     let mut components = Vec::new(alloc);
     components.push(component(alloc, "Id", Role::Identifier, Kind::Text)?)?;
     components.push(component(alloc, "Me", Role::Measure, Kind::Number)?)?;
-    Ok(Structure::of(components))
+    Structure::of(alloc, components)
 }
 
 fn component(alloc: Global, name: &str, role: Role, kind: Kind) -> Result<Component, AllocError>

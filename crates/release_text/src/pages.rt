@@ -1,11 +1,11 @@
 // The published data set of a statement, with its text.
-ghost use Rattle.std.specs.Prelude.{◌≡◌, ◌++◌, IfOk, OnOk};
+ghost use Rattle.std.specs.Prelude.{◌≡◌, IfOk};
 ghost use Rattle.std.specs.FinMap as finmap;
 ghost use Rattle.data_model.specs.Deltas.{apply, BeginsAt, Leads};
 ghost use Rattle.outside.specs.Sinks.{Extends};
 ghost use Rattle.release_text.specs.Releases.{page_of, page_text};
 
-use crate::table::rows_text;
+use crate::table::with_table;
 use outside::{Sink, SinkStop, put};
 use point_sets::{Delta, PointSet};
 use std::alloc::{AllocError, Global};
@@ -13,28 +13,26 @@ use std::marker::Model;
 use std::sync::Arc;
 use vtl_values::{Structure, Word};
 
-// Writes the line of the name and the table after the text.
-fn push_page(
+// The line of the name, and the table.
+fn text_of(
     alloc: Global,
-    text: &mut Vec<u8>,
     name: &Word,
     structure: &Structure,
     set: &PointSet,
-) -> Result<(), AllocError>
-    ensures { OnOk result (text.new.items ≡ text.old.items ++ page_text (page_of name.now structure.now set.now)) }
+) -> Result<Vec<u8>, AllocError>
+    ensures { IfOk result (λ text. text.items ≡ page_text (page_of name.now structure.now set.now)) }
 {
+    let mut text = Vec::new(alloc);
     text.push(b'[')?;
     text.extend_from_slice(name.as_str().as_bytes())?;
     text.extend_from_slice(b"]\n")?;
-    let table = rows_text(alloc, structure, set)?;
-    text.extend_from_slice(table.as_slice())?;
-    Ok(())
+    with_table(alloc, text, structure, set)
 }
 
 // A data set with its name, its structure and the text that is made of them.
 #[derive(Drop)]
 struct Held {
-    name: Word,
+    name: Arc<Word>,
     structure: Structure,
     set: PointSet,
     text: Vec<u8>,
@@ -63,28 +61,29 @@ impl Model for Pages {
 }
 
 impl Pages {
+    ghost use Rattle.std.specs.Arc.{arc_value};
+
     /// Pages without points, of this name and structure, or want of memory.
     pub fn empty(alloc: Global, name: &Word, structure: &Structure) -> Result<Pages, AllocError>
         ensures { IfOk result (λ pages. pages ≡ page_of name.now structure.now finmap.empty) }
     {
         Pages::of(
             alloc,
-            name.copy()?,
-            structure.copy(alloc)?,
+            Arc::new(alloc, name.copy()?)?,
+            structure.copy()?,
             PointSet::new(alloc),
         )
     }
 
     fn of(
         alloc: Global,
-        name: Word,
+        name: Arc<Word>,
         structure: Structure,
         set: PointSet,
     ) -> Result<Pages, AllocError>
-        ensures { IfOk result (λ pages. pages ≡ page_of name structure set) }
+        ensures { IfOk result (λ pages. pages ≡ page_of (arc_value name) structure set) }
     {
-        let mut text = Vec::new(alloc);
-        push_page(alloc, &mut text, &name, &structure, &set)?;
+        let text = text_of(alloc, &name, &structure, &set)?;
         let held = Held {
             name,
             structure,
@@ -110,7 +109,8 @@ impl Pages {
         self.held.set.count()
     }
 
-    /// The pages after a delta that begins at their set, or want of memory. These pages stay as they are.
+    /// The pages after a delta that begins at their set, or want of memory. These pages stay as they are, and the name and
+    /// the structure are shared. The text is written anew, in a time that grows with it.
     pub fn after(&self, delta: &Delta) -> Result<Pages, AllocError>
         requires { BeginsAt delta.now self.now.set }
         ensures pages { IfOk result (λ pages. pages ≡ page_of self.now.name self.now.components (apply delta.now self.now.set)) }
@@ -120,7 +120,7 @@ impl Pages {
         let alloc = *held.text.allocator();
         let mut set = held.set.copy()?;
         set.apply(delta)?;
-        Pages::of(alloc, held.name.copy()?, held.structure.copy(alloc)?, set)
+        Pages::of(alloc, held.name.clone()?, held.structure.copy()?, set)
     }
 
     /// Equal pages, which share what is held, or want of memory.

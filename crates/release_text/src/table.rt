@@ -16,7 +16,7 @@ use vtl_values::{Structure, Value, Word};
 pub fn words_row(alloc: Global, words: &[Word]) -> Result<Vec<u8>, AllocError>
     ensures { IfOk result (λ text. text.items ≡ row words.now) }
 {
-    let mut writer = RowWriter::new(alloc);
+    let mut writer = RowWriter::after(alloc, Vec::new(alloc));
     for word in words {
         writer.push(word)?;
     }
@@ -28,8 +28,8 @@ pub fn words_row(alloc: Global, words: &[Word]) -> Result<Vec<u8>, AllocError>
 pub fn values_row(alloc: Global, values: &[Value]) -> Result<Vec<u8>, AllocError>
     ensures { IfOk result (λ text. text.items ≡ row_of_values values.now) }
 {
-    let mut writer = RowWriter::new(alloc);
-    writer.push_values(alloc, values)?;
+    let mut writer = RowWriter::after(alloc, Vec::new(alloc));
+    writer.push_values(values)?;
     writer.end_row()?;
     writer.into_text()
 }
@@ -42,10 +42,22 @@ pub fn rows_text(
 ) -> Result<Vec<u8>, AllocError>
     ensures { IfOk result (λ text. text.items ≡ table structure.now set.now) }
 {
+    with_table(alloc, Vec::new(alloc), structure, set)
+}
+
+/// The text, and after it the table of a data set with these components, or want of memory.
+pub(crate) fn with_table(
+    alloc: Global,
+    text: Vec<u8>,
+    structure: &Structure,
+    set: &PointSet,
+) -> Result<Vec<u8>, AllocError>
+    ensures { IfOk result (λ after. after.items ≡ text.items ++ table structure.now set.now) }
+{
     let points = set.points()?;
-    let mut writer = RowWriter::new(alloc);
+    let mut writer = RowWriter::after(alloc, text);
     write_header(&mut writer, structure)?;
-    write_points(alloc, &mut writer, points.as_slice())?;
+    write_points(&mut writer, points.as_slice())?;
     writer.into_text()
 }
 
@@ -59,17 +71,13 @@ fn write_header(writer: &mut RowWriter, structure: &Structure) -> Result<(), All
     writer.end_row()
 }
 
-fn write_points(
-    alloc: Global,
-    writer: &mut RowWriter,
-    points: &[Arc<Point>],
-) -> Result<(), AllocError>
+fn write_points(writer: &mut RowWriter, points: &[Arc<Point>]) -> Result<(), AllocError>
     ensures { (written : List ℕ) → HasWritten writer.old written []
         → OnOk result (HasWritten writer.new (written ++ flat_map point_row (map entry_of points.now)) []) }
 {
     for point in points {
-        writer.push_values(alloc, point.key.values())?;
-        writer.push_values(alloc, point.rest.as_slice())?;
+        writer.push_values(point.key.values())?;
+        writer.push_values(point.rest.as_slice())?;
         writer.end_row()?;
     }
     Ok(())

@@ -18,5 +18,5 @@ mod places;
 pub use blanks::{ltrim, rtrim, trim};
 pub use letters::{lower, upper};
 pub use parts::{concat, replace};
-pub use patterns::{Pattern, PatternStop};
+pub use patterns::{Pattern, PatternMatcher, PatternStop};
 pub use places::{instr, length, substr};

@@ -2,7 +2,7 @@
 ghost use Rattle.std.specs.Prelude.{◌≡◌, false, IsTrue, IfOk, OnOk, IsErrOf, chars, string_bytes};
 ghost use Rattle.scalar_texts.specs.Patterns.{anchored, is_pattern, matches_whole};
 
-use regex::Regex;
+use regex::{Matcher, Regex};
 use std::alloc::{AllocError, Global};
 use std::marker::Model;
 use thiserror::Error;
@@ -75,12 +75,52 @@ impl Pattern {
         Ok(Pattern { regex, alloc })
     }
 
+    /// What matches many texts, with the room that it takes.
+    pub fn matcher(&self) -> Result<PatternMatcher<'_>, AllocError>
+        ensures { IfOk result (λ m. m ≡ self.now) }
+    {
+        Ok(PatternMatcher {
+            pattern: self,
+            matcher: self.regex.matcher(self.alloc)?,
+        })
+    }
+
     /// Whether the whole text matches.
     pub fn matches(&self, s: &str) -> Result<bool, AllocError>
         ensures { IfOk result (λ b. b ≡ matches_whole self.now (chars s.now)) }
     {
-        let mut matcher = self.regex.matcher(self.alloc)?;
-        Ok(matcher.is_match(s))
+        let mut matcher = self.matcher()?;
+        Ok(matcher.matches(s))
+    }
+}
+
+/// A pattern with the room that matching takes, which serves many texts. Contracts see the characters of the pattern's
+/// text.
+#[derive(Drop)]
+pub struct PatternMatcher<'a> {
+    pattern: &'a Pattern,
+    matcher: Matcher<'a>,
+}
+
+impl<'a> Model for PatternMatcher<'a> {
+    ghost use Rattle.std.specs.Prelude.{List, ℕ};
+    ghost use Rattle.regex.specs.Strings.{matcher_pattern};
+    ghost use Rattle.scalar_texts.specs.Patterns.{FindsSame};
+
+    ghost Value = { List ℕ };
+
+    ghost view = { λ m. m.pattern.now };
+
+    ghost invariant = { λ m. FindsSame (matcher_pattern m.matcher) m.pattern.now };
+}
+
+impl PatternMatcher<'_> {
+    /// Whether the whole text matches.
+    pub fn matches(&mut self, s: &str) -> bool
+        ensures value { result ≡ matches_whole self.old (chars s.now) }
+        ensures same { self.new ≡ self.old }
+    {
+        self.matcher.is_match(s)
     }
 }
 

@@ -1,35 +1,20 @@
 -- What a further code and a further set mean, from what their parts gave.
-use Rattle.std.proofs.Common.{◌≡◌, ℕ, ◌<◌, Bool, true, false, List, [], ◌∷◌, ◌++◌, length, Option, Some, None, Result, Ok, Err, chars, codes, is_some, nat_eq, nat_le, if◌then◌else◌, Bor, refl, sym, ap, subst, ◌∙◌, true≢false, arith}
+use Rattle.std.proofs.Common.{◌≡◌, ℕ, ◌<◌, Bool, false, List, [], ◌∷◌, ◌++◌, length, Option, Some, None, Result, Ok, Err, codes, is_some, nat_le, if◌then◌else◌, Bor, sym, ap, subst, ◌∙◌, true≢false, arith}
 use Rattle.std.proofs.lemmas.Bool.Decides.{nat_tests}
-use Rattle.std.specs.Cmp.Lexicographic.{pointwise}
-use Rattle.std.specs.List.{list_any}
 use Rattle.std.specs.Option.{option_copied}
 use Rattle.serde_json.specs.Data.{Data}
-use Rattle.serde_json.specs.Find.{as_str}
-use Rattle.vtl_values.specs.declared.structure.Component.{Component}
 use Rattle.vtl_values.specs.Structures.{NamedStructures, structure_of}
-use Rattle.structure_files.specs.declared.stop.Fault.TheVariants.{BadCodes, MissingField, NameTwice, TooMany}
+use Rattle.structure_files.specs.declared.stop.Fault.TheVariants.{MissingField, NameTwice, TooMany}
 use Rattle.structure_files.specs.declared.stop.Field.TheVariants.{Name, Components}
-use Rattle.structure_files.specs.declared.stop.Path.{Path}
 use Rattle.structure_files.specs.declared.stop.Path.TheVariants.{Set, SetField}
 use Rattle.structure_files.specs.declared.stop.Refusal.{Refusal}
 use Rattle.structure_files.specs.declared.stop.StructureStop.{StructureStop}
 use Rattle.structure_files.specs.declared.stop.StructureStop.TheVariants.{Refused, Memory}
-use Rattle.structure_files.specs.Fields.{name_at, next_code}
+use Rattle.structure_files.specs.Fields.{name_at}
 use Rattle.structure_files.specs.Json.{list_in}
 use Rattle.structure_files.specs.Reading.{components_of, next_set}
 use Rattle.structure_files.specs.Refusals.{◌>>=◌, refused, or_refused, Refuses}
 use Rattle.structure_files.proofs.Steps.{goes_on, ends}
-
--- a further code, by its text and whether that stands before it
-pub next_code-is : (path : Path) (before : List (List ℕ)) (value : Data) (text word : List ℕ) (twice : Bool) → Some text ≡ as_str value → word ≡ chars text → twice ≡ list_any (λ other. pointwise nat_eq other word) before
-    → next_code path before value ≡ (if twice then refused BadCodes path else Ok (before ++ word ∷ []))
-next_code-is path before value text word twice found is test =
-    let with_word : List ℕ → Result (List (List ℕ)) Refusal = λ w. if list_any (λ other. pointwise nat_eq other w) before then refused BadCodes path else Ok (before ++ w ∷ []) in
-    let decided : Bool → Result (List (List ℕ)) Refusal = λ t. if t then refused BadCodes path else Ok (before ++ word ∷ []) in
-    ap (λ (o : Option (List ℕ)). or_refused o BadCodes path >>= (λ t. with_word (chars t))) (sym found)
-    ∙ ap with_word (sym is)
-    ∙ ap decided (sym test)
 
 -- a name that isn't found isn't there
 pub is_some-copied : {X : Type 0} (found : Option (Bor X)) (meant : Option X) → option_copied found ≡ meant → false ≡ is_some found → is_some meant ≡ false

@@ -95,11 +95,6 @@ none_passes p (x ∷ xs) none = All-cons (λ y. p y ≡ false) x xs (or_false_le
     or_false_right true b h = absurd (true≢false h)
     or_false_right false b h = h
 
--- where no text is this one, each is another
-pub other_words : (words : List (List ℕ)) (word : List ℕ) → list_any (λ other. pointwise nat_eq other word) words ≡ false → All (λ other. other ≢ word) words
-other_words words word none k d within same =
-    true≢false (sym (nat_list_eq_equiv.refl word) ∙ ap (λ n. pointwise nat_eq n word) (sym same) ∙ none_passes (λ other. pointwise nat_eq other word) words none k d within)
-
 -- where no component has the name, each has another
 other_names : (components : List Component) (name : List ℕ) → list_any (has_name name) components ≡ false → All (λ c. c.name ≢ name) components
 other_names components name none k d within same =

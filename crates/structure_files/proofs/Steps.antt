@@ -1,8 +1,7 @@
 -- Steps of reading that follow one another.
-use Rattle.std.proofs.Common.{◌≡◌, ℕ, ◌+◌, ◌<◌, List, [], ◌∷◌, length, take, map, get_or, Option, Some, None, Result, Ok, Err, IfErr, IsErrAnd, refl, sym, subst, ap, ◌∙◌}
+use Rattle.std.proofs.Common.{◌≡◌, ℕ, ◌+◌, ◌<◌, List, [], ◌∷◌, length, take, map, get_or, Result, Ok, Err, IfErr, IsErrAnd, refl, sym, subst, ap, ◌∙◌}
 use Rattle.std.proofs.lemmas.List.Sums.{fold_more}
 use Rattle.std.proofs.lemmas.List.Folds.{fold-map, fold_stuck}
-use Rattle.std.specs.List.{fold}
 use Rattle.serde_json.specs.View.{view, items_view}
 use Rattle.serde_json.specs.declared.value.Value.{Value}
 use Rattle.structure_files.specs.declared.stop.Refusal.{Refusal}

@@ -1,7 +1,6 @@
 -- What a field of a component holds (docs/formats.md, "Structures").
-use Rattle.std.specs.Prelude.{ℕ, List, [], ◌∷◌, ◌++◌, Bool, true, false, ◌&&◌, ◌||◌, ◌==◌, Option, Some, None, Result, Ok, chars, codes, nat_eq, if◌then◌else◌}
+use Rattle.std.specs.Prelude.{ℕ, List, [], ◌∷◌, ◌++◌, Bool, false, ◌&&◌, ◌||◌, ◌==◌, Option, Some, None, Result, Ok, chars, codes, if◌then◌else◌}
 use Rattle.std.specs.Char.{is_ascii_alphabetic, is_ascii_alphanumeric}
-use Rattle.std.specs.Cmp.Lexicographic.{pointwise}
 use Rattle.std.specs.List.{list_all, list_any}
 use Rattle.std.specs.Map.{lookup}
 use Rattle.serde_json.specs.Data.{Data}
@@ -12,6 +11,7 @@ use Rattle.vtl_values.specs.declared.kind.Role.{Role}
 use Rattle.vtl_values.specs.declared.kind.Role.TheVariants.{Identifier, Measure, Attribute, Viral}
 use Rattle.vtl_values.specs.declared.structure.Codes.{Codes}
 use Rattle.vtl_values.specs.declared.structure.Codes.TheVariants.{Any, Listed}
+use Rattle.vtl_values.specs.Texts.{same_text}
 use Rattle.structure_files.specs.declared.stop.Fault.TheVariants.{MissingField, BadRole, BadType, BadName, BadCodes}
 use Rattle.structure_files.specs.declared.stop.Path.{Path}
 use Rattle.structure_files.specs.declared.stop.Refusal.{Refusal}
@@ -31,7 +31,7 @@ kinds = (codes "integer", Integer) ∷ (codes "number", Number) ∷ (codes "stri
 
 -- what a text stands for
 abbrev pub meant_by : {A : Type 0} → List (List ℕ × A) → List ℕ → Option A
-meant_by words text = lookup (pointwise nat_eq text) words
+meant_by words text = lookup (same_text text) words
 
 -- the field `name`: MissingField, then BadName
 abbrev pub name_at : Path → Data → Result (List ℕ) Refusal
@@ -55,7 +55,7 @@ kind_at path value = do
 abbrev pub next_code : Path → List (List ℕ) → Data → Result (List (List ℕ)) Refusal
 next_code path before value = do
   text ← or_refused (as_str value) BadCodes path
-  if list_any (λ other. pointwise nat_eq other (chars text)) before then refused BadCodes path else Ok (before ++ chars text ∷ [])
+  if list_any (same_text (chars text)) before then refused BadCodes path else Ok (before ++ chars text ∷ [])
 
 -- a code list isn't empty
 abbrev pub code_list : Path → List (List ℕ) → Result Codes Refusal

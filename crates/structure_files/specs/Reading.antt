@@ -1,9 +1,8 @@
 -- The structures that a file gives, or its first fault (docs/formats.md, "Structures").
-use Rattle.std.specs.Prelude.{ℕ, List, [], ◌∷◌, ◌++◌, Bool, true, false, length, Result, Ok, codes, count_by, insert, is_some, nat_eq, nat_le, if◌then◌else◌}
+use Rattle.std.specs.Prelude.{ℕ, List, [], ◌∷◌, ◌++◌, Bool, length, Result, Ok, codes, count_by, insert, is_some, nat_eq, nat_le, if◌then◌else◌}
 use Rattle.std.specs.Cmp.Lexicographic.{pointwise}
 use Rattle.std.specs.List.{list_any}
 use Rattle.serde_json.specs.Data.{Data}
-use Rattle.vtl_values.specs.declared.kind.Role.TheVariants.{Identifier}
 use Rattle.vtl_values.specs.declared.structure.Component.{Component}
 use Rattle.vtl_values.specs.Structures.{NamedStructures, place_of, structure_of}
 use Rattle.structure_files.specs.declared.stop.Fault.TheVariants.{NotJson, MissingField, NameTwice, NoIdentifier, TooMany}

@@ -1,8 +1,7 @@
 // The fields of a component.
-ghost use Rattle.std.specs.Prelude.{◌≡◌, ◌≢◌, ◌||◌, ◌==◌, IfOk, IfErr, AllPairs, map, nat_eq};
+ghost use Rattle.std.specs.Prelude.{◌≡◌, ◌≢◌, ◌||◌, ◌==◌, IfOk, IfErr, map};
 ghost use Rattle.std.specs.Char.{is_ascii_alphanumeric};
-ghost use Rattle.std.specs.Cmp.Lexicographic.{pointwise};
-ghost use Rattle.std.specs.List.{list_all, list_any};
+ghost use Rattle.std.specs.List.{list_all};
 ghost use Rattle.serde_json.specs.View.{view};
 ghost use Rattle.vtl_values.specs.Structures.{FitsCodes};
 ghost use Rattle.vtl_values.specs.declared.kind.Role.TheVariants.{Viral};
@@ -12,10 +11,10 @@ ghost use Rattle.structure_files.specs.Refusals.{Refuses, one_by_one};
 
 use crate::json::{as_list, text_in};
 use crate::stop::{Fault, Path, StructureStop};
+use indexmap::IndexSet;
 use serde_json::Value;
-use sqlite_items::Items;
 use std::alloc::Global;
-use vtl_values::{Codes, Kind, Role, Word};
+use vtl_values::{CodeList, Codes, Kind, Role, Word};
 
 fn is_name(text: &str) -> bool
     ensures { result ≡ is_name text.now }
@@ -94,45 +93,36 @@ pub fn kind_in(path: Path, value: &Value) -> Result<Kind, StructureStop>
     kind_meant(text).ok_or(StructureStop::at(Fault::BadType, path))
 }
 
-fn has_word(words: &[Word], text: &Word) -> bool
-    ensures { result ≡ list_any (λ other. pointwise nat_eq other text.now) words.now }
-{
-    words.iter().any(|other| other == text)
-}
-
 fn with_code(
     alloc: Global,
     path: Path,
-    words: Vec<Word>,
+    codes: IndexSet<Word>,
     value: &Value,
-) -> Result<Vec<Word>, StructureStop>
-    requires { AllPairs (λ a b. a ≢ b) words.items }
-    ensures ok { IfOk result (λ more. next_code path words.items (view value.now) ≡ Ok more.items) }
-    ensures err { IfErr result (Refuses (next_code path words.items (view value.now))) }
-    ensures differ { IfOk result (λ more. AllPairs (λ a b. a ≢ b) more.items) }
+) -> Result<IndexSet<Word>, StructureStop>
+    ensures ok { IfOk result (λ more. next_code path codes.keys (view value.now) ≡ Ok more.keys) }
+    ensures err { IfErr result (Refuses (next_code path codes.keys (view value.now))) }
 {
     let Some(text) = value.as_str() else {
         return Err(StructureStop::at(Fault::BadCodes, path));
     };
-    let word = Word::from_str(alloc, text)?;
-    if has_word(words.as_slice(), &word) {
+    let code = Word::from_str(alloc, text)?;
+    let mut codes = codes;
+    let (_, is_new) = codes.insert_full(code)?;
+    if !is_new {
         return Err(StructureStop::at(Fault::BadCodes, path));
     }
-    let mut words = words;
-    words.push(word)?;
-    Ok(words)
+    Ok(codes)
 }
 
-fn words_of(alloc: Global, path: Path, values: &[Value]) -> Result<Vec<Word>, StructureStop>
-    ensures ok { IfOk result (λ words. one_by_one (next_code path) (map view values.now) ≡ Ok words.items) }
+fn all_codes(alloc: Global, path: Path, values: &[Value]) -> Result<IndexSet<Word>, StructureStop>
+    ensures ok { IfOk result (λ codes. one_by_one (next_code path) (map view values.now) ≡ Ok codes.keys) }
     ensures err { IfErr result (Refuses (one_by_one (next_code path) (map view values.now))) }
-    ensures differ { IfOk result (λ words. AllPairs (λ a b. a ≢ b) words.items) }
 {
-    let mut words = Vec::new(alloc);
+    let mut codes = IndexSet::new(alloc);
     for value in values {
-        words = with_code(alloc, path, words, value)?;
+        codes = with_code(alloc, path, codes, value)?;
     }
-    Ok(words)
+    Ok(codes)
 }
 
 fn codes_of(alloc: Global, path: Path, kind: Kind, values: &[Value]) -> Result<Codes, StructureStop>
@@ -143,11 +133,11 @@ fn codes_of(alloc: Global, path: Path, kind: Kind, values: &[Value]) -> Result<C
     let Kind::Text = kind else {
         return Err(StructureStop::at(Fault::BadCodes, path));
     };
-    let words = words_of(alloc, path, values)?;
-    if words.is_empty() {
+    let codes = CodeList::of(alloc, all_codes(alloc, path, values)?)?;
+    if codes.as_slice().is_empty() {
         return Err(StructureStop::at(Fault::BadCodes, path));
     }
-    Ok(Codes::Listed(Items::from_vec(words)))
+    Ok(Codes::Listed(codes))
 }
 
 fn no_codes(path: Path, role: Role) -> Result<Codes, StructureStop>

@@ -35,7 +35,7 @@ fn with_set(
     };
     let components = components_in(alloc, set, values)?;
     let mut structures = structures;
-    structures.insert(name, Structure::of(components))?;
+    structures.insert(name, Structure::of(alloc, components)?)?;
     Ok(structures)
 }
 

@@ -6,6 +6,7 @@
 //! the list of them in order of insertion. It stands on the kit's `indexmap` and `sqlite_items`.
 #![tactic(auto)]
 
+pub mod codes;
 pub mod kind;
 pub mod laws;
 pub mod number;
@@ -17,11 +18,12 @@ pub mod structures;
 pub mod value;
 pub mod word;
 
+pub use codes::CodeList;
 pub use kind::{Kind, Role};
 pub use number::{Decimal, Integer};
 pub use place::Place;
 pub use read::{BadText, ReadStop, read_value};
-pub use show::show_value;
+pub use show::{show_value, show_value_in};
 pub use structure::{Codes, Component, Structure};
 pub use structures::Structures;
 pub use value::Value;

@@ -13,35 +13,43 @@ use std::fmt::Write;
 pub fn show_value(alloc: Global, value: &Value) -> Result<Word, AllocError>
     ensures { IfOk result (λ word. word ≡ text_of value.now) }
 {
-    match value {
-        Value::Null => Word::from_str(alloc, ""),
-        Value::Truth(truth) => show_truth(alloc, *truth),
-        Value::Integer(integer) => Ok(Word::from(integer.value.to_string(alloc)?)),
-        Value::Number(number) => show_number(alloc, *number),
-        Value::Text(word) => show_text(alloc, word),
-    }
+    let mut text = String::new(alloc);
+    show_value_in(&mut text, value)?;
+    Ok(Word::from(text))
 }
 
-fn show_truth(alloc: Global, truth: bool) -> Result<Word, AllocError>
-    ensures { IfOk result (λ text. text ≡ text_of (Value.Truth truth)) }
+/// Puts the text that writes a value in place of what stands in `text`, whose room is used again. At want of memory some
+/// of it may stand there.
+pub fn show_value_in(text: &mut String, value: &Value) -> Result<(), AllocError>
+    ensures { OnOk result (chars (string_bytes text.new) ≡ text_of value.now) }
 {
-    if truth {
-        Word::from_str(alloc, "true")
-    } else {
-        Word::from_str(alloc, "false")
+    text.clear();
+    match value {
+        Value::Null => {}
+        Value::Truth(truth) => text.push_str(truth_word(*truth))?,
+        Value::Integer(integer) => write!(text, "{}", integer.value)?,
+        Value::Number(number) => show_number_in(text, *number)?,
+        Value::Text(word) => show_text_in(text, word)?,
     }
+    Ok(())
 }
 
-fn show_text(alloc: Global, word: &Word) -> Result<Word, AllocError>
-    ensures { IfOk result (λ text. text ≡ text_of (Value.Text word.now)) }
+fn truth_word(truth: bool) -> &'static str
+    ensures { chars result.now ≡ text_of (Value.Truth truth) }
+{
+    if truth { "true" } else { "false" }
+}
+
+fn show_text_in(text: &mut String, word: &Word) -> Result<(), AllocError>
+    ensures { OnOk result (chars (string_bytes text.new) ≡ text_of (Value.Text word.now)) }
 {
     let content = word.as_str();
-    let mut text = String::new(alloc);
+    text.clear();
     if needs_backslash(content) {
         text.push('\\')?;
     }
     text.push_str(content)?;
-    Ok(Word::from(text))
+    Ok(())
 }
 
 fn needs_backslash(content: &str) -> bool
@@ -50,17 +58,17 @@ fn needs_backslash(content: &str) -> bool
     content.is_empty() || content.starts_with('\\')
 }
 
-fn show_number(alloc: Global, number: Decimal) -> Result<Word, AllocError>
-    ensures { IfOk result (λ text. text ≡ number_text number) }
+fn show_number_in(text: &mut String, number: Decimal) -> Result<(), AllocError>
+    ensures { OnOk result (chars (string_bytes text.new) ≡ number_text number) }
 {
     let magnitude = number.millionths.unsigned_abs();
-    let mut text = String::new(alloc);
+    text.clear();
     if number.millionths < 0 {
         text.push('-')?;
     }
     write!(text, "{}", magnitude / 1_000_000)?;
-    push_decimals(&mut text, (magnitude % 1_000_000) as u32)?;
-    Ok(Word::from(text))
+    push_decimals(text, (magnitude % 1_000_000) as u32)?;
+    Ok(())
 }
 
 /// Writes a point and decimals, if there are any.

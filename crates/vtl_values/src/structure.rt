@@ -2,39 +2,31 @@
 ghost use Rattle.std.specs.Prelude.{◌≡◌, IfOk, IfErr, OnOk, OnErr, MatchResult, slice_get, ◌∷◌, [], ◌++◌};
 ghost use Rattle.std.specs.Option.{option_copied};
 
+use crate::codes::CodeList;
 use crate::kind::{Kind, Role};
 use crate::word::Word;
 use sqlite_items::Items;
 use std::alloc::{AllocError, Global};
 use std::marker::Model;
+use std::sync::Arc;
 
-/// The code list of a component: any text, or the texts listed. Those of a viral attribute stand by rising rank.
+/// The code list of a component: any text, or the texts listed.
 #[derive(Debug, Drop)]
 pub enum Codes {
     Any,
-    Listed(Items<Word>),
+    Listed(CodeList),
 }
 
 impl Codes {
     /// An equal code list, or want of memory.
-    pub fn copy(&self, alloc: Global) -> Result<Codes, AllocError>
+    pub fn copy(&self) -> Result<Codes, AllocError>
         ensures { IfOk result (λ codes. codes ≡ self.now) }
     {
         match self {
             Codes::Any => Ok(Codes::Any),
-            Codes::Listed(codes) => Ok(Codes::Listed(copy_words(alloc, codes.as_slice())?)),
+            Codes::Listed(codes) => Ok(Codes::Listed(codes.copy()?)),
         }
     }
-}
-
-fn copy_words(alloc: Global, words: &[Word]) -> Result<Items<Word>, AllocError>
-    ensures { IfOk result (λ copies. copies ≡ words.now) }
-{
-    let mut copies = Vec::new(alloc);
-    for word in words {
-        copies.push(word.copy()?)?;
-    }
-    Ok(Items::from_vec(copies))
 }
 
 /// A column of a data set.
@@ -48,49 +40,50 @@ pub struct Component {
 
 impl Component {
     /// An equal component, or want of memory.
-    pub fn copy(&self, alloc: Global) -> Result<Component, AllocError>
+    pub fn copy(&self) -> Result<Component, AllocError>
         ensures { IfOk result (λ component. component ≡ self.now) }
     {
         Ok(Component {
             name: self.name.copy()?,
             role: self.role,
             kind: self.kind,
-            codes: self.codes.copy(alloc)?,
+            codes: self.codes.copy()?,
         })
     }
 }
 
 /// The components of a data set in their order: identifiers, measures, attributes, viral attributes. Contracts see it
-/// as the list of them.
+/// as the list of them. Copies share the components.
 #[derive(Debug, Drop)]
 pub struct Structure {
-    components: Items<Component>,
+    components: Arc<Items<Component>>,
 }
 
 impl Model for Structure {
     ghost use Rattle.std.specs.Prelude.{List};
+    ghost use Rattle.std.specs.Arc.{arc_value};
     ghost use Rattle.vtl_values.specs.declared.structure.Component.{Component};
 
     ghost Value = { List Component };
 
     ghost use Rattle.vtl_values.specs.Structures.{IsStructure};
 
-    ghost view = { λ s. s.components };
+    ghost view = { λ s. arc_value s.components };
 
-    ghost invariant = { λ s. IsStructure s.components };
+    ghost invariant = { λ s. IsStructure (arc_value s.components) };
 }
 
 impl Structure {
     ghost use Rattle.vtl_values.specs.Structures.{IsStructure};
 
-    /// A structure of components that stand by role and fit together.
-    pub fn of(components: Vec<Component>) -> Structure
+    /// A structure of components that stand by role and fit together, or want of memory.
+    pub fn of(alloc: Global, components: Vec<Component>) -> Result<Structure, AllocError>
         requires { IsStructure components.items }
-        ensures { result ≡ components.items }
+        ensures { IfOk result (λ structure. structure ≡ components.items) }
     {
-        Structure {
-            components: Items::from_vec(components),
-        }
+        Ok(Structure {
+            components: Arc::new(alloc, Items::from_vec(components))?,
+        })
     }
 
     /// The components, in structure order.
@@ -101,22 +94,12 @@ impl Structure {
         self.components.as_slice()
     }
 
-    /// An equal structure, or want of memory.
-    pub fn copy(&self, alloc: Global) -> Result<Structure, AllocError>
+    /// An equal structure, which shares the components, or want of memory.
+    pub fn copy(&self) -> Result<Structure, AllocError>
         ensures { IfOk result (λ structure. structure ≡ self.now) }
     {
         Ok(Structure {
-            components: copy_components(alloc, self.components.as_slice())?,
+            components: self.components.clone()?,
         })
     }
-}
-
-fn copy_components(alloc: Global, components: &[Component]) -> Result<Items<Component>, AllocError>
-    ensures { IfOk result (λ copies. copies ≡ components.now) }
-{
-    let mut copies = Vec::new(alloc);
-    for component in components {
-        copies.push(component.copy(alloc)?)?;
-    }
-    Ok(Items::from_vec(copies))
 }

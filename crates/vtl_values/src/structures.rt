@@ -83,7 +83,7 @@ impl Structures {
     {
         let mut copies = Structures::new(alloc);
         while let Some((name, structure)) = self.nth(copies.len()) {
-            copies.insert(name.copy()?, structure.copy(alloc)?)?;
+            copies.insert(name.copy()?, structure.copy()?)?;
         }
         Ok(copies)
     }

@@ -3,4 +3,4 @@ use Rattle.release_text.proofs.table.values_row.Goals as goal
 
 pub returns : goal.returns
 unfolding row_of_values
-returns c = c.into_text.ensures _ _ (c.in_ok-end_row.ensures _ _ (c.in_ok-push_values.ensures _ _ c.new-writer.ensures))
+returns c = rw (c.new.ensures.items) at (c.into_text.ensures _ _ (c.in_ok-end_row.ensures _ _ (c.in_ok-push_values.ensures _ _ c.after-writer.ensures)))

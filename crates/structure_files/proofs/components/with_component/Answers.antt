@@ -1,4 +1,4 @@
-use Rattle.std.proofs.Common.{◌≡◌, ℕ, count_by, insert, nat_le, ap, sym, subst, ◌∙◌}
+use Rattle.std.proofs.Common.{ℕ, count_by, insert, nat_le, ap, sym, subst, ◌∙◌}
 use Rattle.std.specs.List.{list_any}
 use Rattle.vtl_values.specs.declared.structure.Component.{Component}
 use Rattle.vtl_values.specs.Structures.{IsStructure, place_of}

@@ -1,4 +1,4 @@
-use Rattle.std.proofs.Common.{◌≡◌, Some, map, option_map, sym, ap, ◌∙◌}
+use Rattle.std.proofs.Common.{Some, map, option_map, sym, ap, ◌∙◌}
 use Rattle.serde_json.specs.View.{view}
 use Rattle.structure_files.specs.Json.{listed}
 use Rattle.structure_files.proofs.Steps.{listed-items_view}

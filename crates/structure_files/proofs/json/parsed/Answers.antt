@@ -1,4 +1,4 @@
-use Rattle.std.proofs.Common.{◌≡◌, Some, None, Bool, true, false, ap, sym, subst, ◌∙◌, refl, true≢false, if◌then◌else◌, List, ℕ}
+use Rattle.std.proofs.Common.{◌≡◌, None, Bool, true, false, ap, sym, subst, ◌∙◌, refl, true≢false, if◌then◌else◌, List, ℕ}
 use Rattle.std.proofs.lemmas.Str.{IsUtf8-from_is_utf8, is_utf8-from_IsUtf8}
 use Rattle.std.specs.Str.{IsUtf8, is_utf8}
 use Rattle.serde_json.specs.Read.{read}

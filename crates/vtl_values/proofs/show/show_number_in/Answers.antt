@@ -6,8 +6,8 @@ use Rattle.std.specs.Int.{w128}
 use Rattle.std.specs.Str.{chars}
 use Rattle.vtl_values.specs.Numerals.{MINUS, is_negative, pointed, fraction_digits}
 use Rattle.vtl_values.proofs.Shown.{chars-number, negative-test}
-use Rattle.vtl_values.proofs.show.show_number.Goals as goal
-use Rattle.vtl_values.proofs.show.show_number.Goals.{then-number-lt0+in_ok-push, else-number-lt0}
+use Rattle.vtl_values.proofs.show.show_number_in.Goals as goal
+use Rattle.vtl_values.proofs.show.show_number_in.Goals.{then-number-lt0+in_ok-push, else-number-lt0}
 
 pub returns : goal.returns
 returns c =
@@ -17,12 +17,11 @@ returns c =
     elim c.if-number-lt0.branch [
       | then-number-lt0+in_ok-push w ↦
           let negative : is_negative c.args.number ≡ true = ap is_negative (sym same) ∙ sym (negative-test (to_z w128 (of_z w128 c.number.inside.millionths))) ∙ w.if-number-lt0.true in
-          ap string_bytes w.text-is ∙ w.in_ok-push.ensures.bytes ∙ ap (λ t. t ++ encode MINUS) c.new-text.ensures.bytes ∙ encode_ascii MINUS (omega arith) ∙ sym (rw negative refl)
+          ap string_bytes w.text-is ∙ w.in_ok-push.ensures.bytes ∙ ap (λ t. t ++ encode MINUS) c.clear.ensures.bytes ∙ encode_ascii MINUS (omega arith) ∙ sym (rw negative refl)
       | else-number-lt0 w ↦
           let positive : is_negative c.args.number ≡ false = ap is_negative (sym same) ∙ sym (negative-test (to_z w128 (of_z w128 c.number.inside.millionths))) ∙ w.if-number-lt0.false in
-          ap string_bytes w.text-is ∙ c.new-text.ensures.bytes ∙ sym (rw positive refl)
+          ap string_bytes w.text-is ∙ c.clear.ensures.bytes ∙ sym (rw positive refl)
     ] in
     let magnitude : c.unsigned_abs-magnitude.result ≡ nat_abs c.args.number = c.unsigned_abs-magnitude.ensures.value ∙ ap nat_abs same in
-    c.from.ensures
-    ∙ ap chars (c.in_ok-push_decimals.ensures ∙ ap (λ t. t ++ pointed (fraction_digits 6 (c.unsigned_abs-magnitude.result % 1000000))) c.in_ok-write.ensures.bytes)
+    ap chars (c.in_ok-push_decimals.ensures ∙ ap (λ t. t ++ pointed (fraction_digits 6 (c.unsigned_abs-magnitude.result % 1000000))) c.in_ok-write.ensures.bytes)
     ∙ chars-number c.args.number (string_bytes c.if-number-lt0.text) c.unsigned_abs-magnitude.result sign magnitude (omega (arith, c.unsigned_abs-magnitude.ensures.bound))
