@@ -1,3 +1,4 @@
 pub mod Shown
+pub mod Tables
 pub mod Lists
 pub mod PlainLaws

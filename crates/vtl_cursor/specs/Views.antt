@@ -6,8 +6,6 @@ use Rattle.vtl_cursor.specs.declared.stop.Kind.{Kind}
 use Rattle.vtl_cursor.specs.declared.stop.Kind.TheVariants as stopped
 use Rattle.vtl_cursor.specs.declared.stop.Stop.{Stop}
 use Rattle.vtl_cursor.specs.declared.stop.Stop.TheVariants as stops
-use Rattle.vtl_cursor.specs.declared.mark.Mark.{Mark}
-use Rattle.vtl_cursor.specs.declared.mark.Mark.TheVariants as mark
 use Rattle.vtl_grammar.specs.Marks as marks
 use Rattle.vtl_grammar.specs.Marks.{Tokens}
 use Rattle.vtl_grammar.specs.Rules as counted
@@ -27,11 +25,6 @@ abbrev pub kind_of : Kind → kinds.Kind
 kind_of stopped.Expected = kinds.Expected
 kind_of stopped.TooDeep = kinds.TooDeep
 kind_of (stopped.TooMany l) = kinds.TooMany (limit_of l)
-
--- a mark of the grammar
-abbrev pub mark_of : Mark → marks.Mark
-mark_of (mark.Word w) = marks.key w
-mark_of (mark.Sign s) = marks.sign s
 
 -- the mark with which the tokens begin
 abbrev pub mark_at : Tokens → Option marks.Mark

@@ -1,20 +1,18 @@
 // Names, components, and what clauses say of them.
 ghost use Rattle.std.specs.Option.{option_map};
-ghost use Rattle.vtl_tokens.specs.declared.keyword.Keyword.TheVariants as words;
 ghost use Rattle.vtl_tokens.specs.declared.sign.Sign.TheVariants as signs;
-ghost use Rattle.vtl_grammar.specs.Rules.{name, ◌▸◌, either, word, sig};
+ghost use Rattle.vtl_grammar.specs.Rules.{name, ◌▸◌, sig};
 ghost use Rattle.vtl_grammar.specs.Reading.{no_part, firsts, maybe};
-ghost use Rattle.vtl_grammar.specs.Clauses.{names, names_of, comp, comp_of, renamed, renamed_of, sub_item, sub_item_of, literal, literal_of, grouping, grouping_of, group_word_of, role_of};
+ghost use Rattle.vtl_grammar.specs.Clauses.{names, names_of, comp, comp_of, renamed, renamed_of, sub_item, sub_item_of, literal, literal_of, grouping, grouping_of};
 ghost use Rattle.vtl_cursor.specs.Limits.{limits};
 ghost use Rattle.vtl_cursor.specs.Plain.{read_plain};
 ghost use Rattle.vtl_cursor.specs.Views.{Shows};
 
 use crate::literals::literal;
 use crate::parse::{Parse, commas};
-use crate::{Cursor, Stop};
+use crate::{Cursor, Stop, choice};
 use sqlite_items::Items;
 use std::alloc::Global;
-use vtl_syntax::words::{GroupWord, ItemRole};
 use vtl_syntax::{Comp, Grouping, Rename, SubItem};
 use vtl_tokens::{Keyword, Sign};
 use vtl_values::{Value, Word};
@@ -127,34 +125,7 @@ pub fn grouping(alloc: Global, cursor: &mut Cursor) -> Result<Grouping, Stop>
     ensures { Shows grouping_of cursor.new.tokens.now result (read_plain limits no_part grouping cursor.old.tokens.now) }
 {
     let place = cursor.word(Keyword::Group)?;
-    let word = group_word(cursor)?;
+    let word = choice(cursor)?;
     let names = names(alloc, cursor)?;
     Ok(Grouping { word, names, place })
-}
-
-/// `by` or `except`.
-fn group_word(cursor: &mut Cursor) -> Result<GroupWord, Stop>
-    ensures { Shows group_word_of cursor.new.tokens.now result (read_plain limits no_part (either (word words.By) (word words.Except)) cursor.old.tokens.now) }
-{
-    if cursor.is_word(Keyword::By) {
-        cursor.word(Keyword::By)?;
-        return Ok(GroupWord::By);
-    }
-    cursor.word(Keyword::Except)?;
-    Ok(GroupWord::Except)
-}
-
-/// `measure`, `attribute` or nothing.
-pub fn item_role(cursor: &mut Cursor) -> Result<Option<ItemRole>, Stop>
-    ensures { Shows (λ v. option_map role_of v) cursor.new.tokens.now result (maybe (firsts (either (word words.Measure) (word words.Attribute))) (read_plain limits no_part (either (word words.Measure) (word words.Attribute))) cursor.old.tokens.now) }
-{
-    if cursor.is_word(Keyword::Measure) {
-        cursor.word(Keyword::Measure)?;
-        return Ok(Some(ItemRole::Measure));
-    }
-    if cursor.is_word(Keyword::Attribute) {
-        cursor.word(Keyword::Attribute)?;
-        return Ok(Some(ItemRole::Attribute));
-    }
-    Ok(None)
 }

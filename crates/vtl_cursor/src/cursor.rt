@@ -2,9 +2,9 @@
 ghost use Rattle.std.specs.Prelude.{◌≡◌, ◌+◌, ◌<◌, ◌≤◌, length};
 ghost use Rattle.vtl_cursor.specs.Limits.{most};
 
-use crate::mark::{Mark, mark_in};
 use crate::same::{is_name, is_sign, is_word};
 use crate::stop::{Kind, Stop};
+use vtl_grammar::{Mark, mark_in};
 use vtl_tokens::{Keyword, Sign, Token, TokenKind};
 use vtl_values::{Decimal, Integer, Place, Word};
 
@@ -42,7 +42,8 @@ impl<'a> Cursor<'a> {
     ghost use Rattle.vtl_grammar.specs.Marks.{key, sign, of_mark};
     ghost use Rattle.vtl_grammar.specs.Rules.{label, component, first_place};
     ghost use Rattle.vtl_grammar.specs.Reading.{read_mark, read_name, read_integer, read_number, read_text, starts, has_prefix};
-    ghost use Rattle.vtl_cursor.specs.Views.{Gives, Reads, mark_of, mark_at};
+    ghost use Rattle.vtl_grammar.specs.Words.{mark_of};
+    ghost use Rattle.vtl_cursor.specs.Views.{Gives, Reads, mark_at};
 
     /// At the first of these tokens. The last of them, the `End`, is left out.
     pub fn new(tokens: &'a [Token]) -> Cursor<'a>
@@ -271,6 +272,26 @@ impl<'a> Cursor<'a> {
         match self.tokens {
             [first, ..] => mark_in(&first.what),
             [] => None,
+        }
+    }
+
+    /// Whether that word or sign stands there.
+    pub fn is_mark(&self, wanted: Mark) -> bool
+        ensures { result ≡ starts (of_mark (mark_of wanted) ∷ []) self.now.tokens.now }
+    {
+        match wanted {
+            Mark::Word(word) => self.is_word(word),
+            Mark::Sign(sign) => self.is_sign(sign),
+        }
+    }
+
+    /// That word or sign, and its place.
+    pub fn pass(&mut self, wanted: Mark) -> Result<Place, Stop>
+        ensures { Gives self.new.tokens.now result (read_mark (mark_of wanted) self.old.tokens.now) }
+    {
+        match wanted {
+            Mark::Word(word) => self.word(word),
+            Mark::Sign(sign) => self.sign(sign),
         }
     }
 

@@ -9,12 +9,12 @@
 //! It stands on `vtl_tokens`, on the grammar of `vtl_grammar` and on the trees of `vtl_syntax`.
 #![tactic(auto)]
 
+pub mod choices;
 #[tactic(auto, using(crate::proofs::Shown::shown))]
 pub mod components;
 pub mod cursor;
 #[tactic(auto, using(crate::proofs::Shown::shown))]
 pub mod literals;
-pub mod mark;
 #[tactic(auto, using(crate::proofs::Shown::shown))]
 pub mod operators;
 #[tactic(auto, using(crate::proofs::Shown::shown))]
@@ -27,8 +27,9 @@ pub mod stop;
 #[tactic(auto, using(crate::proofs::Shown::shown))]
 pub mod windows;
 
+pub use choices::{choice, optional_choice};
 pub use cursor::{Cursor, Named, Number, Whole};
-pub use mark::{Mark, mark_in};
 pub use parse::{Parse, commas, list};
 pub use same::{is_same_word, is_word};
 pub use stop::{Kind, Limit, Stop};
+pub use vtl_grammar::{Mark, mark_in};

@@ -1,9 +1,8 @@
 // The parts of rulesets.
 ghost use Rattle.std.specs.Prelude.{◌≡◌, map};
-ghost use Rattle.std.specs.Option.{option_map};
 ghost use Rattle.vtl_grammar.specs.Rules.{lists};
-ghost use Rattle.vtl_grammar.specs.Reading.{no_part, starts, firsts, maybe, read_more};
-ghost use Rattle.vtl_grammar.specs.Rulesets.{variable, variable_of, relation_rule, relation_of, plus_or_minus, sign_of, signed_name, signed_name_of};
+ghost use Rattle.vtl_grammar.specs.Reading.{no_part, starts, firsts, read_more};
+ghost use Rattle.vtl_grammar.specs.Rulesets.{variable, variable_of, signed_name, signed_name_of};
 ghost use Rattle.vtl_cursor.specs.Limits.{limits};
 ghost use Rattle.vtl_cursor.specs.Plain.{read_plain};
 ghost use Rattle.vtl_cursor.specs.Views.{Shows};
@@ -14,7 +13,7 @@ use crate::parse::Parse;
 use crate::{Cursor, Kind, Limit, Named, Stop, Whole};
 use sqlite_items::Items;
 use std::alloc::Global;
-use vtl_syntax::words::{Relation, Sign};
+use vtl_syntax::words::Sign;
 use vtl_syntax::{FaultPart, SignedName, Variable};
 use vtl_tokens::Sign as SignToken;
 use vtl_values::Place;
@@ -34,45 +33,6 @@ impl Parse for Variable {
             place: name.place,
         })
     }
-}
-
-/// `=`, `<`, `>`, `<=` or `>=`.
-pub fn relation(cursor: &mut Cursor) -> Result<Relation, Stop>
-    ensures { Shows relation_of cursor.new.tokens.now result (read_plain limits no_part relation_rule cursor.old.tokens.now) }
-{
-    if cursor.is_sign(SignToken::Equal) {
-        cursor.sign(SignToken::Equal)?;
-        return Ok(Relation::Equal);
-    }
-    if cursor.is_sign(SignToken::LessThan) {
-        cursor.sign(SignToken::LessThan)?;
-        return Ok(Relation::Less);
-    }
-    if cursor.is_sign(SignToken::GreaterThan) {
-        cursor.sign(SignToken::GreaterThan)?;
-        return Ok(Relation::Greater);
-    }
-    if cursor.is_sign(SignToken::AtMost) {
-        cursor.sign(SignToken::AtMost)?;
-        return Ok(Relation::AtMost);
-    }
-    cursor.sign(SignToken::AtLeast)?;
-    Ok(Relation::AtLeast)
-}
-
-/// `+`, `-` or nothing.
-pub fn optional_sign(cursor: &mut Cursor) -> Result<Option<Sign>, Stop>
-    ensures { Shows (λ v. option_map sign_of v) cursor.new.tokens.now result (maybe (firsts plus_or_minus) (read_plain limits no_part plus_or_minus) cursor.old.tokens.now) }
-{
-    if cursor.is_sign(SignToken::Plus) {
-        cursor.sign(SignToken::Plus)?;
-        return Ok(Some(Sign::Plus));
-    }
-    if cursor.is_sign(SignToken::Minus) {
-        cursor.sign(SignToken::Minus)?;
-        return Ok(Some(Sign::Minus));
-    }
-    Ok(None)
 }
 
 /// Names, each after a `+` or a `-`; there may be none.

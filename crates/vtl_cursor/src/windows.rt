@@ -1,20 +1,20 @@
 // Windows of analytic functions.
 ghost use Rattle.std.specs.Option.{option_map};
 ghost use Rattle.vtl_tokens.specs.declared.keyword.Keyword.TheVariants as words;
-ghost use Rattle.vtl_grammar.specs.Rules.{◌▸◌, either, word, commas, listed};
+ghost use Rattle.vtl_grammar.specs.Rules.{◌▸◌, word, commas, listed};
 ghost use Rattle.vtl_grammar.specs.Reading.{no_part, firsts, maybe};
 ghost use Rattle.vtl_grammar.specs.Clauses.{names, names_of};
-ghost use Rattle.vtl_grammar.specs.Calls.{order_item, order_item_of, direction_of, window_start, window_start_of, window_end, window_end_of, points, points_of, over, over_of};
+ghost use Rattle.vtl_grammar.specs.Calls.{order_item, order_item_of, window_start, window_start_of, window_end, window_end_of, points, points_of, over, over_of};
 ghost use Rattle.vtl_cursor.specs.Limits.{limits};
 ghost use Rattle.vtl_cursor.specs.Plain.{read_plain};
 ghost use Rattle.vtl_cursor.specs.Views.{Shows};
 
 use crate::components::names;
 use crate::parse::{Parse, commas};
-use crate::{Cursor, Stop};
+use crate::{Cursor, Stop, optional_choice};
 use sqlite_items::Items;
 use std::alloc::Global;
-use vtl_syntax::words::{Direction, WindowEnd, WindowStart};
+use vtl_syntax::words::{WindowEnd, WindowStart};
 use vtl_syntax::{OrderItem, Over, Points};
 use vtl_tokens::{Keyword, Sign};
 use vtl_values::Word;
@@ -71,7 +71,7 @@ impl Parse for OrderItem {
     /// `name`, `name asc` or `name desc`.
     fn parse(_alloc: Global, cursor: &mut Cursor) -> Result<Self, Stop> {
         let name = cursor.name()?;
-        let direction = direction(cursor)?;
+        let direction = optional_choice(cursor);
         Ok(OrderItem {
             name: name.value,
             direction,
@@ -142,19 +142,4 @@ pub fn window_end(cursor: &mut Cursor) -> Result<WindowEnd, Stop>
     cursor.word(Keyword::Data)?;
     cursor.word(Keyword::Point)?;
     Ok(WindowEnd::Current)
-}
-
-/// `asc`, `desc` or nothing.
-fn direction(cursor: &mut Cursor) -> Result<Option<Direction>, Stop>
-    ensures { Shows (λ v. option_map direction_of v) cursor.new.tokens.now result (maybe (firsts (either (word words.Asc) (word words.Desc))) (read_plain limits no_part (either (word words.Asc) (word words.Desc))) cursor.old.tokens.now) }
-{
-    if cursor.is_word(Keyword::Asc) {
-        cursor.word(Keyword::Asc)?;
-        return Ok(Some(Direction::Ascending));
-    }
-    if cursor.is_word(Keyword::Desc) {
-        cursor.word(Keyword::Desc)?;
-        return Ok(Some(Direction::Descending));
-    }
-    Ok(None)
 }

@@ -22,29 +22,12 @@ use Rattle.vtl_syntax.specs.declared.words.WindowFunction.{WindowFunction}
 use Rattle.vtl_syntax.specs.declared.words.WindowFunction.TheVariants as window_word
 use Rattle.vtl_syntax.specs.declared.words.OffsetFunction.{OffsetFunction}
 use Rattle.vtl_syntax.specs.declared.words.TimeFunction.{TimeFunction}
-use Rattle.vtl_syntax.specs.declared.words.FillSpan.{FillSpan}
-use Rattle.vtl_syntax.specs.declared.words.FillSpan.TheVariants as fill_span
-use Rattle.vtl_syntax.specs.declared.words.Direction.{Direction}
-use Rattle.vtl_syntax.specs.declared.words.Direction.TheVariants as direction
 use Rattle.vtl_syntax.specs.declared.words.WindowStart.{WindowStart}
 use Rattle.vtl_syntax.specs.declared.words.WindowStart.TheVariants as start
 use Rattle.vtl_syntax.specs.declared.words.WindowEnd.{WindowEnd}
 use Rattle.vtl_syntax.specs.declared.words.WindowEnd.TheVariants as stop
-use Rattle.vtl_syntax.specs.declared.words.ExistsRows.{ExistsRows}
-use Rattle.vtl_syntax.specs.declared.words.ExistsRows.TheVariants as exists_rows
-use Rattle.vtl_syntax.specs.declared.words.RowsOutput.{RowsOutput}
-use Rattle.vtl_syntax.specs.declared.words.RowsOutput.TheVariants as rows_output
-use Rattle.vtl_syntax.specs.declared.words.CheckOutput.{CheckOutput}
-use Rattle.vtl_syntax.specs.declared.words.CheckOutput.TheVariants as check_output
-use Rattle.vtl_syntax.specs.declared.words.Mode.{Mode}
-use Rattle.vtl_syntax.specs.declared.words.Mode.TheVariants as mode
-use Rattle.vtl_syntax.specs.declared.words.HierarchyInput.{HierarchyInput}
-use Rattle.vtl_syntax.specs.declared.words.HierarchyInput.TheVariants as hierarchy_input
-use Rattle.vtl_syntax.specs.declared.words.HierarchyOutput.{HierarchyOutput}
-use Rattle.vtl_syntax.specs.declared.words.HierarchyOutput.TheVariants as hierarchy_output
-use Rattle.vtl_syntax.specs.declared.words.CheckInput.{CheckInput}
-use Rattle.vtl_syntax.specs.declared.words.CheckInput.TheVariants as check_input
 use Rattle.vtl_grammar.specs.Rules.{Rule, name, integer, text, part, ◌▸◌, option, suffix, either, repeated, prefixed, here, component, clause, filtering, calculating, keeping, renaming, operands, Of, word, expr, comma, open_paren, close_paren, commas, listed}
+use Rattle.vtl_grammar.specs.Words.{one_of, chosen, directions, exists_rows, fill_spans, rows_outputs, modes, hierarchy_inputs, hierarchy_outputs, check_inputs, check_outputs}
 use Rattle.vtl_grammar.specs.Clauses.{literal, literal_of, signed_integer, signed_of, names, names_of, groups, groups_of}
 
 -- a form that begins with a word of its own: its precedence, what comes after the word, and the tree with the word's
@@ -102,17 +85,9 @@ replace = record { precedence = 7; rule = open_paren ▸ expr 0 ▸ comma ▸ ex
 
 -- ---- sets and joins
 
-abbrev pub exists_rows_rule : Rule
-exists_rows_rule = either (word words.All) (either (word words.True) (word words.False))
-
-abbrev pub exists_rows_of : Of exists_rows_rule → ExistsRows
-exists_rows_of (inl p) = exists_rows.All
-exists_rows_of (inr (inl p)) = exists_rows.True
-exists_rows_of (inr (inr p)) = exists_rows.False
-
 -- exists_in(expr, expr [, all or true or false])
 abbrev pub exists_in : Form
-exists_in = record { precedence = 7; rule = open_paren ▸ expr 0 ▸ comma ▸ expr 0 ▸ option (comma ▸ exists_rows_rule) close_paren; tree = λ v p. tree.ExistsIn v.1.0 v.1.1.1.0 (option_map (λ w. exists_rows_of w.1) v.1.1.1.1.0) p }
+exists_in = record { precedence = 7; rule = open_paren ▸ expr 0 ▸ comma ▸ expr 0 ▸ option (comma ▸ one_of exists_rows) close_paren; tree = λ v p. tree.ExistsIn v.1.0 v.1.1.1.0 (option_map (λ w. chosen exists_rows w.1) v.1.1.1.1.0) p }
 
 -- F(expr, expr {, expr})
 abbrev pub sets : SetFunction → Form
@@ -145,14 +120,10 @@ join f = record {
 
 -- name ["asc" | "desc"]
 abbrev pub order_item : Rule
-order_item = suffix name (either (word words.Asc) (word words.Desc))
-
-abbrev pub direction_of : Place ⊎ Place → Direction
-direction_of (inl p) = direction.Ascending
-direction_of (inr p) = direction.Descending
+order_item = suffix name (one_of directions)
 
 abbrev pub order_item_of : Of order_item → OrderItem
-order_item_of v = record { name = v.0.value; direction = option_map direction_of v.1; place = v.0.place }
+order_item_of v = record { name = v.0.value; direction = option_map (chosen directions) v.1; place = v.0.place }
 
 -- "current" "data" "point"
 abbrev pub current_point : Rule
@@ -236,96 +207,40 @@ time f = record { precedence = 7; rule = open_paren ▸ expr 0 ▸ close_paren; 
 abbrev pub timeshift : Form
 timeshift = record { precedence = 7; rule = open_paren ▸ expr 0 ▸ comma ▸ signed_integer ▸ close_paren; tree = λ v p. tree.Timeshift v.1.0 (signed_of v.1.1.1.0) p }
 
-abbrev pub fill_span_rule : Rule
-fill_span_rule = either (word words.All) (word words.Single)
-
-abbrev pub fill_span_of : Of fill_span_rule → FillSpan
-fill_span_of (inl p) = fill_span.All
-fill_span_of (inr p) = fill_span.Single
-
 -- fill_time_series(expr [, all or single])
 abbrev pub fill_time_series : Form
-fill_time_series = record { precedence = 7; rule = open_paren ▸ expr 0 ▸ option (comma ▸ fill_span_rule) close_paren; tree = λ v p. tree.FillTimeSeries v.1.0 (option_map (λ w. fill_span_of w.1) v.1.1.0) p }
+fill_time_series = record { precedence = 7; rule = open_paren ▸ expr 0 ▸ option (comma ▸ one_of fill_spans) close_paren; tree = λ v p. tree.FillTimeSeries v.1.0 (option_map (λ w. chosen fill_spans w.1) v.1.1.0) p }
 
 -- ---- rulesets and checks
-
--- "invalid" | "all" | "all_measures"
-abbrev pub rows_output_rule : Rule
-rows_output_rule = either (word words.Invalid) (either (word words.All) (word words.AllMeasures))
-
-abbrev pub rows_output_of : Of rows_output_rule → RowsOutput
-rows_output_of (inl p) = rows_output.Invalid
-rows_output_of (inr (inl p)) = rows_output.All
-rows_output_of (inr (inr p)) = rows_output.AllMeasures
 
 -- check_datapoint(expr, name [output])
 abbrev pub check_datapoint : Form
 check_datapoint = record {
   precedence = 7;
-  rule = open_paren ▸ expr 0 ▸ comma ▸ name ▸ option rows_output_rule close_paren;
-  tree = λ v p. tree.CheckDatapoint v.1.0 v.1.1.1.0.value v.1.1.1.0.place (option_map rows_output_of v.1.1.1.1.0) p;
+  rule = open_paren ▸ expr 0 ▸ comma ▸ name ▸ option (one_of rows_outputs) close_paren;
+  tree = λ v p. tree.CheckDatapoint v.1.0 v.1.1.1.0.value v.1.1.1.0.place (option_map (chosen rows_outputs) v.1.1.1.1.0) p;
 }
-
-abbrev pub mode_rule : Rule
-mode_rule = either (word words.NonNull) (either (word words.NonZero) (either (word words.PartialNull) (either (word words.PartialZero) (either (word words.AlwaysNull) (word words.AlwaysZero)))))
-
-abbrev pub mode_of : Of mode_rule → Mode
-mode_of (inl p) = mode.NonNull
-mode_of (inr (inl p)) = mode.NonZero
-mode_of (inr (inr (inl p))) = mode.PartialNull
-mode_of (inr (inr (inr (inl p)))) = mode.PartialZero
-mode_of (inr (inr (inr (inr (inl p))))) = mode.AlwaysNull
-mode_of (inr (inr (inr (inr (inr p))))) = mode.AlwaysZero
-
-abbrev pub hierarchy_input_rule : Rule
-hierarchy_input_rule = either (word words.Rule) (either (word words.Dataset) (word words.RulePriority))
-
-abbrev pub hierarchy_input_of : Of hierarchy_input_rule → HierarchyInput
-hierarchy_input_of (inl p) = hierarchy_input.Rule
-hierarchy_input_of (inr (inl p)) = hierarchy_input.Dataset
-hierarchy_input_of (inr (inr p)) = hierarchy_input.RulePriority
-
-abbrev pub hierarchy_output_rule : Rule
-hierarchy_output_rule = either (word words.Computed) (word words.All)
-
-abbrev pub hierarchy_output_of : Of hierarchy_output_rule → HierarchyOutput
-hierarchy_output_of (inl p) = hierarchy_output.Computed
-hierarchy_output_of (inr p) = hierarchy_output.All
-
-abbrev pub check_input_rule : Rule
-check_input_rule = either (word words.Dataset) (word words.DatasetPriority)
-
-abbrev pub check_input_of : Of check_input_rule → CheckInput
-check_input_of (inl p) = check_input.Dataset
-check_input_of (inr p) = check_input.DatasetPriority
 
 -- hierarchy(expr, name ["rule" name] [mode] [input] [output]); `rule` before a name gives the component
 abbrev pub hierarchy : Form
 hierarchy = record {
   precedence = 7;
-  rule = open_paren ▸ expr 0 ▸ comma ▸ name ▸ prefixed component (option mode_rule (option hierarchy_input_rule (option hierarchy_output_rule close_paren)));
-  tree = λ v p. tree.Hierarchy v.1.0 v.1.1.1.0.value v.1.1.1.0.place (option_map (λ w. w.value) v.1.1.1.1.0) (option_map mode_of v.1.1.1.1.1.0) (option_map hierarchy_input_of v.1.1.1.1.1.1.0) (option_map hierarchy_output_of v.1.1.1.1.1.1.1.0) p;
+  rule = open_paren ▸ expr 0 ▸ comma ▸ name ▸ prefixed component (option (one_of modes) (option (one_of hierarchy_inputs) (option (one_of hierarchy_outputs) close_paren)));
+  tree = λ v p. tree.Hierarchy v.1.0 v.1.1.1.0.value v.1.1.1.0.place (option_map (λ w. w.value) v.1.1.1.1.0) (option_map (chosen modes) v.1.1.1.1.1.0) (option_map (chosen hierarchy_inputs) v.1.1.1.1.1.1.0) (option_map (chosen hierarchy_outputs) v.1.1.1.1.1.1.1.0) p;
 }
 
 -- check_hierarchy(expr, name ["rule" name] [mode] [input] [output])
 abbrev pub check_hierarchy : Form
 check_hierarchy = record {
   precedence = 7;
-  rule = open_paren ▸ expr 0 ▸ comma ▸ name ▸ option (word words.Rule ▸ name) (option mode_rule (option check_input_rule (option rows_output_rule close_paren)));
-  tree = λ v p. tree.CheckHierarchy v.1.0 v.1.1.1.0.value v.1.1.1.0.place (option_map (λ w. w.1.value) v.1.1.1.1.0) (option_map mode_of v.1.1.1.1.1.0) (option_map check_input_of v.1.1.1.1.1.1.0) (option_map rows_output_of v.1.1.1.1.1.1.1.0) p;
+  rule = open_paren ▸ expr 0 ▸ comma ▸ name ▸ option (word words.Rule ▸ name) (option (one_of modes) (option (one_of check_inputs) (option (one_of rows_outputs) close_paren)));
+  tree = λ v p. tree.CheckHierarchy v.1.0 v.1.1.1.0.value v.1.1.1.0.place (option_map (λ w. w.1.value) v.1.1.1.1.0) (option_map (chosen modes) v.1.1.1.1.1.0) (option_map (chosen check_inputs) v.1.1.1.1.1.1.0) (option_map (chosen rows_outputs) v.1.1.1.1.1.1.1.0) p;
 }
-
-abbrev pub check_output_rule : Rule
-check_output_rule = either (word words.All) (word words.Invalid)
-
-abbrev pub check_output_of : Of check_output_rule → CheckOutput
-check_output_of (inl p) = check_output.All
-check_output_of (inr p) = check_output.Invalid
 
 -- check(expr ["errorcode" string] ["errorlevel" ["-"] integer] ["imbalance" expr] [all or invalid])
 abbrev pub check : Form
 check = record {
   precedence = 7;
-  rule = open_paren ▸ expr 0 ▸ option (word words.Errorcode ▸ text) (option (word words.Errorlevel ▸ signed_integer) (option (word words.Imbalance ▸ expr 0) (option check_output_rule close_paren)));
-  tree = λ v p. tree.Check v.1.0 (option_map (λ w. w.1.value) v.1.1.0) (option_map (λ w. signed_of w.1) v.1.1.1.0) (option_map second v.1.1.1.1.0) (option_map check_output_of v.1.1.1.1.1.0) p;
+  rule = open_paren ▸ expr 0 ▸ option (word words.Errorcode ▸ text) (option (word words.Errorlevel ▸ signed_integer) (option (word words.Imbalance ▸ expr 0) (option (one_of check_outputs) close_paren)));
+  tree = λ v p. tree.Check v.1.0 (option_map (λ w. w.1.value) v.1.1.0) (option_map (λ w. signed_of w.1) v.1.1.1.0) (option_map second v.1.1.1.1.0) (option_map (chosen check_outputs) v.1.1.1.1.1.0) p;
 }

@@ -1,5 +1,5 @@
 -- Literals, lists of names, and clauses: what their rules are, and what is read by them.
-use Rattle.std.specs.Prelude.{ℤ, neg_ℤ, List, true, false, Option, Some, None, ◌⊎◌, option_map}
+use Rattle.std.specs.Prelude.{ℤ, neg_ℤ, List, true, false, Option, Some, None, option_map}
 use Rattle.std.proofs.Common.{inl, inr}
 use Rattle.vtl_values.specs.declared.place.Place.{Place}
 use Rattle.vtl_values.specs.declared.value.Value.{Value}
@@ -14,11 +14,8 @@ use Rattle.vtl_syntax.specs.declared.expr.Rename.{Rename}
 use Rattle.vtl_syntax.specs.declared.expr.SubItem.{SubItem}
 use Rattle.vtl_syntax.specs.declared.expr.Grouping.{Grouping}
 use Rattle.vtl_syntax.specs.declared.expr.Groups.{Groups}
-use Rattle.vtl_syntax.specs.declared.words.ItemRole.{ItemRole}
-use Rattle.vtl_syntax.specs.declared.words.ItemRole.TheVariants as role
-use Rattle.vtl_syntax.specs.declared.words.GroupWord.{GroupWord}
-use Rattle.vtl_syntax.specs.declared.words.GroupWord.TheVariants as group_word
 use Rattle.vtl_grammar.specs.Rules.{Rule, name, integer, number, text, ◌▸◌, option, suffix, either, here, Of, Text, JoinPart, filtering, calculating, keeping, renaming, word, sig, expr, comma, commas, listed}
+use Rattle.vtl_grammar.specs.Words.{one_of, chosen, roles, group_words}
 
 -- ["-"] integer | ["-"] number | string | "true" | "false" | "null"
 abbrev pub literal : Rule
@@ -53,14 +50,10 @@ names_of v = listed (λ w. w.value) v
 
 -- ["measure" | "attribute"] name ":=" expr
 abbrev pub item : Rule
-item = here (option (either (word words.Measure) (word words.Attribute)) (name ▸ sig signs.Assign ▸ expr 0))
-
-abbrev pub role_of : Place ⊎ Place → ItemRole
-role_of (inl p) = role.Measure
-role_of (inr p) = role.Attribute
+item = here (option (one_of roles) (name ▸ sig signs.Assign ▸ expr 0))
 
 abbrev pub item_of : Of item → Item
-item_of v = record { role = option_map role_of v.1.0; name = v.1.1.0.value; expr = v.1.1.1.1; place = v.0 }
+item_of v = record { role = option_map (chosen roles) v.1.0; name = v.1.1.0.value; expr = v.1.1.1.1; place = v.0 }
 
 -- name ["#" name]
 abbrev pub comp : Rule
@@ -85,14 +78,10 @@ sub_item_of v = record { name = v.0.value; value = literal_of v.1.1; place = v.0
 
 -- "group" ("by" | "except") name {"," name}
 abbrev pub grouping : Rule
-grouping = word words.Group ▸ either (word words.By) (word words.Except) ▸ names
-
-abbrev pub group_word_of : Place ⊎ Place → GroupWord
-group_word_of (inl p) = group_word.By
-group_word_of (inr p) = group_word.Except
+grouping = word words.Group ▸ one_of group_words ▸ names
 
 abbrev pub grouping_of : Of grouping → Grouping
-grouping_of v = record { word = group_word_of v.1.0; names = names_of v.1.1; place = v.0 }
+grouping_of v = record { word = chosen group_words v.1.0; names = names_of v.1.1; place = v.0 }
 
 -- grouping ["having" expr]
 abbrev pub groups : Rule

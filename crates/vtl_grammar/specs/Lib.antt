@@ -1,5 +1,6 @@
 pub mod Marks
 pub mod Rules
+pub mod Words
 pub mod Clauses
 pub mod Calls
 pub mod Forms

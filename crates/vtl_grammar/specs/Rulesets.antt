@@ -4,10 +4,6 @@ use Rattle.std.proofs.Common.{inl, inr}
 use Rattle.vtl_values.specs.declared.place.Place.{Place}
 use Rattle.vtl_tokens.specs.declared.keyword.Keyword.TheVariants as words
 use Rattle.vtl_tokens.specs.declared.sign.Sign.TheVariants as signs
-use Rattle.vtl_syntax.specs.declared.words.Sign.{Sign}
-use Rattle.vtl_syntax.specs.declared.words.Sign.TheVariants as sign_word
-use Rattle.vtl_syntax.specs.declared.words.Relation.{Relation}
-use Rattle.vtl_syntax.specs.declared.words.Relation.TheVariants as relation
 use Rattle.vtl_syntax.specs.declared.ruleset.Ruleset.{Ruleset}
 use Rattle.vtl_syntax.specs.declared.ruleset.Ruleset.TheVariants as kind
 use Rattle.vtl_syntax.specs.declared.ruleset.Variable.{Variable}
@@ -18,6 +14,7 @@ use Rattle.vtl_syntax.specs.declared.ruleset.HierarchyRule.{HierarchyRule}
 use Rattle.vtl_syntax.specs.declared.ruleset.DatapointRules.{DatapointRules}
 use Rattle.vtl_syntax.specs.declared.ruleset.HierarchyRules.{HierarchyRules}
 use Rattle.vtl_grammar.specs.Rules.{Rule, name, text, ◌▸◌, option, suffix, either, repeated, prefixed, here, label, rules, lists, Of, At, Text, word, sig, expr, open_paren, close_paren, commas, listed}
+use Rattle.vtl_grammar.specs.Words.{one_of, chosen, relations, plus_or_minus}
 use Rattle.vtl_grammar.specs.Clauses.{signed_integer, signed_of}
 
 abbrev pub semicolon : Rule
@@ -64,47 +61,28 @@ datapoint_rules = word words.Datapoint ▸ word words.Ruleset ▸ name ▸ open_
 abbrev pub datapoint_rules_of : Place → Of datapoint_rules → DatapointRules
 datapoint_rules_of p v = record { name = v.1.1.0.value; variables = listed variable_of v.1.1.1.1.1.0; rules = listed datapoint_rule_of v.1.1.1.1.1.1.1.1.0; place = p }
 
--- "=" | "<" | ">" | "<=" | ">="
-abbrev pub relation_rule : Rule
-relation_rule = either (sig signs.Equal) (either (sig signs.LessThan) (either (sig signs.GreaterThan) (either (sig signs.AtMost) (sig signs.AtLeast))))
-
-abbrev pub relation_of : Of relation_rule → Relation
-relation_of (inl p) = relation.Equal
-relation_of (inr (inl p)) = relation.Less
-relation_of (inr (inr (inl p))) = relation.Greater
-relation_of (inr (inr (inr (inl p)))) = relation.AtMost
-relation_of (inr (inr (inr (inr p)))) = relation.AtLeast
-
--- "+" | "-"
-abbrev pub plus_or_minus : Rule
-plus_or_minus = either (sig signs.Plus) (sig signs.Minus)
-
-abbrev pub sign_of : Place ⊎ Place → Sign
-sign_of (inl p) = sign_word.Plus
-sign_of (inr p) = sign_word.Minus
-
 abbrev pub either_place : Place ⊎ Place → Place
 either_place (inl p) = p
 either_place (inr p) = p
 
 -- ("+" | "-") name
 abbrev pub signed_name : Rule
-signed_name = plus_or_minus ▸ name
+signed_name = one_of plus_or_minus ▸ name
 
 abbrev pub signed_name_of : Of signed_name → SignedName
-signed_name_of v = record { sign = sign_of v.0; name = v.1.value; place = either_place v.0 }
+signed_name_of v = record { sign = chosen plus_or_minus v.0; name = v.1.value; place = either_place v.0 }
 
 -- [name ":"] ["when" expr "then"] name rel ["+"|"-"] name {("+"|"-") name} err
 abbrev pub hierarchy_rule : Rule
-hierarchy_rule = here (prefixed label (conditioned (with_fault (name ▸ relation_rule ▸ option plus_or_minus (repeated lists name signed_name)))))
+hierarchy_rule = here (prefixed label (conditioned (with_fault (name ▸ one_of relations ▸ option (one_of plus_or_minus) (repeated lists name signed_name)))))
 
 abbrev pub hierarchy_rule_of : Of hierarchy_rule → HierarchyRule
 hierarchy_rule_of v = record {
   name = option_map (λ w. w.value) v.1.0;
   condition = option_map (λ w. w.1.0) v.1.1.0;
   left = v.1.1.1.0.0.0.value;
-  relation = relation_of v.1.1.1.0.0.1.0;
-  sign = option_map sign_of v.1.1.1.0.0.1.1.0;
+  relation = chosen relations v.1.1.1.0.0.1.0;
+  sign = option_map (chosen plus_or_minus) v.1.1.1.0.0.1.1.0;
   first = v.1.1.1.0.0.1.1.1.0.value;
   others = map signed_name_of v.1.1.1.0.0.1.1.1.1;
   fault = fault_of v.1.1.1.0.1 v.1.1.1.1 v.0;

@@ -6,7 +6,14 @@
 //! grammar: it gives the script that the tokens are, tokens are one script at most or have one fault, and it stops at
 //! the first token with which no script within the limits goes on. The parser is proved to answer as the reader does.
 //!
+//! Of code it has the choices between words or signs alone: a table for each, by which readers and the spelling go.
+//!
 //! It stands on `vtl_tokens` and `vtl_syntax`.
 #![tactic(auto)]
 
+pub mod choices;
 pub mod laws;
+pub mod mark;
+
+pub use choices::Choice;
+pub use mark::{Mark, mark_in};

@@ -13,7 +13,7 @@ use Rattle.vtl_cursor.specs.declared.cursor.Whole.{Whole}
 use Rattle.vtl_cursor.specs.Faults.{code_of, level_of, fault_in}
 
 -- what says what is wrong is put together of its parts
-same_fault : (c : Option (Place × At Text)) (n : Option (Place × Of signed_integer)) (p : Place) → fault_in (option_map code_of c) (option_map level_of n) p ≡ fault_of c n p
+pub same_fault : (c : Option (Place × At Text)) (n : Option (Place × Of signed_integer)) (p : Place) → fault_in (option_map code_of c) (option_map level_of n) p ≡ fault_of c n p
 same_fault None None p = refl
 same_fault None (Some n) p = refl
 same_fault (Some c) None p = refl

@@ -12,7 +12,8 @@ use Rattle.vtl_grammar.specs.Rules.{Counts, Part, OfPart, Rule, name, integer, t
 use Rattle.vtl_tokens.specs.declared.keyword.Keyword.TheVariants as words
 use Rattle.vtl_tokens.specs.declared.sign.Sign.TheVariants as signs
 use Rattle.vtl_grammar.specs.Clauses.{literal, literal_of, signed_integer, signed_of, clause_rule, clause_of}
-use Rattle.vtl_grammar.specs.Calls.{Form, unary, replace, substr, sets, join, aggregate, count, rank, check, over, over_of, rows_output_rule, rows_output_of, mode_rule, mode_of, hierarchy_input_rule, hierarchy_input_of, hierarchy_output_rule, hierarchy_output_of, check_input_rule, check_input_of, exists_rows_rule, exists_rows_of, fill_span_rule, fill_span_of}
+use Rattle.vtl_grammar.specs.Words.{one_of, chosen, exists_rows, fill_spans, rows_outputs, modes, hierarchy_inputs, hierarchy_outputs, check_inputs}
+use Rattle.vtl_grammar.specs.Calls.{Form, unary, replace, substr, sets, join, aggregate, count, rank, check, over, over_of}
 use Rattle.vtl_grammar.specs.Forms.{Tail, conditional, bracket, signed_form, leaf_in, leaf_precedence, member_of_set, call_of_name}
 use Rattle.vtl_grammar.specs.Reading.{Reader, mapped, form_at, tail_at}
 use Rattle.vtl_cursor.specs.Plain.{read_plain}
@@ -66,10 +67,10 @@ one_rest (one.Window f) = over ▸ close_paren
 one_rest (one.Offset f) = comma ▸ integer ▸ over ▸ close_paren
 one_rest (one.Time f) = close_paren
 one_rest one.Timeshift = comma ▸ signed_integer ▸ close_paren
-one_rest one.FillTimeSeries = option (comma ▸ fill_span_rule) close_paren
-one_rest one.CheckDatapoint = comma ▸ name ▸ option rows_output_rule close_paren
-one_rest one.Hierarchy = comma ▸ name ▸ prefixed component (option mode_rule (option hierarchy_input_rule (option hierarchy_output_rule close_paren)))
-one_rest one.CheckHierarchy = comma ▸ name ▸ option (word words.Rule ▸ name) (option mode_rule (option check_input_rule (option rows_output_rule close_paren)))
+one_rest one.FillTimeSeries = option (comma ▸ one_of fill_spans) close_paren
+one_rest one.CheckDatapoint = comma ▸ name ▸ option (one_of rows_outputs) close_paren
+one_rest one.Hierarchy = comma ▸ name ▸ prefixed component (option (one_of modes) (option (one_of hierarchy_inputs) (option (one_of hierarchy_outputs) close_paren)))
+one_rest one.CheckHierarchy = comma ▸ name ▸ option (word words.Rule ▸ name) (option (one_of modes) (option (one_of check_inputs) (option (one_of rows_outputs) close_paren)))
 
 abbrev pub one_tree : (c : OneOperand) → Expr → Of (one_rest c) → Place → Expr
 one_tree (one.Unary f) e v p = tree.Unary f e p
@@ -80,10 +81,10 @@ one_tree (one.Window f) e v p = tree.Window f e (over_of v.0) p
 one_tree (one.Offset f) e v p = tree.Offset f e v.1.0.value (over_of v.1.1.0) p
 one_tree (one.Time f) e v p = tree.Time f e p
 one_tree one.Timeshift e v p = tree.Timeshift e (signed_of v.1.0) p
-one_tree one.FillTimeSeries e v p = tree.FillTimeSeries e (option_map (λ w. fill_span_of w.1) v.0) p
-one_tree one.CheckDatapoint e v p = tree.CheckDatapoint e v.1.0.value v.1.0.place (option_map rows_output_of v.1.1.0) p
-one_tree one.Hierarchy e v p = tree.Hierarchy e v.1.0.value v.1.0.place (option_map (λ w. w.value) v.1.1.0) (option_map mode_of v.1.1.1.0) (option_map hierarchy_input_of v.1.1.1.1.0) (option_map hierarchy_output_of v.1.1.1.1.1.0) p
-one_tree one.CheckHierarchy e v p = tree.CheckHierarchy e v.1.0.value v.1.0.place (option_map (λ w. w.1.value) v.1.1.0) (option_map mode_of v.1.1.1.0) (option_map check_input_of v.1.1.1.1.0) (option_map rows_output_of v.1.1.1.1.1.0) p
+one_tree one.FillTimeSeries e v p = tree.FillTimeSeries e (option_map (λ w. chosen fill_spans w.1) v.0) p
+one_tree one.CheckDatapoint e v p = tree.CheckDatapoint e v.1.0.value v.1.0.place (option_map (chosen rows_outputs) v.1.1.0) p
+one_tree one.Hierarchy e v p = tree.Hierarchy e v.1.0.value v.1.0.place (option_map (λ w. w.value) v.1.1.0) (option_map (chosen modes) v.1.1.1.0) (option_map (chosen hierarchy_inputs) v.1.1.1.1.0) (option_map (chosen hierarchy_outputs) v.1.1.1.1.1.0) p
+one_tree one.CheckHierarchy e v p = tree.CheckHierarchy e v.1.0.value v.1.0.place (option_map (λ w. w.1.value) v.1.1.0) (option_map (chosen modes) v.1.1.1.0) (option_map (chosen check_inputs) v.1.1.1.1.0) (option_map (chosen rows_outputs) v.1.1.1.1.1.0) p
 
 abbrev pub one_form : OneOperand → Form
 one_form c = record { precedence = 7; rule = open_paren ▸ expr 0 ▸ one_rest c; tree = λ v p. one_tree c v.1.0 v.1.1 p }
@@ -93,12 +94,12 @@ one_form c = record { precedence = 7; rule = open_paren ▸ expr 0 ▸ one_rest 
 abbrev pub two_rest : TwoOperands → Rule
 two_rest (two.Binary f) = close_paren
 two_rest (two.Difference f) = close_paren
-two_rest two.ExistsIn = option (comma ▸ exists_rows_rule) close_paren
+two_rest two.ExistsIn = option (comma ▸ one_of exists_rows) close_paren
 
 abbrev pub two_tree : (c : TwoOperands) → Expr → Expr → Of (two_rest c) → Place → Expr
 two_tree (two.Binary f) l r v p = tree.Binary f l r p
 two_tree (two.Difference f) l r v p = tree.Difference f l r p
-two_tree two.ExistsIn l r v p = tree.ExistsIn l r (option_map (λ w. exists_rows_of w.1) v.0) p
+two_tree two.ExistsIn l r v p = tree.ExistsIn l r (option_map (λ w. chosen exists_rows w.1) v.0) p
 
 abbrev pub two_form : TwoOperands → Form
 two_form c = record { precedence = 7; rule = open_paren ▸ expr 0 ▸ comma ▸ expr 0 ▸ two_rest c; tree = λ v p. two_tree c v.1.0 v.1.1.1.0 v.1.1.1.1 p }

@@ -1,10 +1,14 @@
 -- Rulesets, as the parser reads them part by part. Each is of the rule g of a single rule, seen by `of`.
-use Rattle.std.specs.Prelude.{ℕ, List, Option, option_map}
+use Rattle.std.specs.Prelude.{ℕ, List, Option, option_map, map}
+use Rattle.vtl_values.specs.declared.place.Place.{Place}
 use Rattle.vtl_tokens.specs.declared.keyword.Keyword.{Keyword}
 use Rattle.vtl_tokens.specs.declared.keyword.Keyword.TheVariants as words
+use Rattle.vtl_syntax.specs.declared.expr.Expr.{Expr}
 use Rattle.vtl_syntax.specs.declared.ruleset.Variable.{Variable}
-use Rattle.vtl_grammar.specs.Rules.{Rule, name, ◌▸◌, option, repeated, rules, Of, Text, word, open_paren, close_paren, commas, listed}
-use Rattle.vtl_grammar.specs.Rulesets.{semicolon, variable, variable_of}
+use Rattle.vtl_syntax.specs.declared.ruleset.HierarchyRule.{HierarchyRule}
+use Rattle.vtl_grammar.specs.Rules.{Rule, name, ◌▸◌, option, repeated, rules, lists, Of, Text, word, open_paren, close_paren, commas, listed}
+use Rattle.vtl_grammar.specs.Words.{one_of, chosen, relations, plus_or_minus}
+use Rattle.vtl_grammar.specs.Rulesets.{semicolon, variable, variable_of, with_fault, fault_of, signed_name, signed_name_of}
 use Rattle.vtl_grammar.specs.Reading.{Reader, below}
 use Rattle.vtl_cursor.specs.Limits.{limits}
 use Rattle.vtl_cursor.specs.Plain.{read_plain}
@@ -50,6 +54,26 @@ hierarchy_parts g = word words.Hierarchical ▸ word words.Ruleset ▸ name ▸ 
 
 abbrev pub hierarchy_parts_of : {R : Type 0} (g : Rule) → (Of g → R) → Of (hierarchy_parts g) → Text × (Option (List Variable) × (Text × List R))
 hierarchy_parts_of g of v = (v.1.1.0.value, conditions_of g of v.1.1.1)
+
+-- ---- a rule of a hierarchy behind its condition
+
+-- name rel ["+"|"-"] name {("+"|"-") name} err
+abbrev pub sides_rule : Rule
+sides_rule = with_fault (name ▸ one_of relations ▸ option (one_of plus_or_minus) (repeated lists name signed_name))
+
+-- with the name and the condition before it
+abbrev pub sides_of : Option Text → Option Expr → Place → Of sides_rule → HierarchyRule
+sides_of n c p v = record {
+  name = n;
+  condition = c;
+  left = v.0.0.0.value;
+  relation = chosen relations v.0.0.1.0;
+  sign = option_map (chosen plus_or_minus) v.0.0.1.1.0;
+  first = v.0.0.1.1.1.0.value;
+  others = map signed_name_of v.0.0.1.1.1.1;
+  fault = fault_of v.0.1 v.1 p;
+  place = p;
+}
 
 -- ---- what is read of them
 

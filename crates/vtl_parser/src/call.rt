@@ -6,20 +6,19 @@ ghost use Rattle.vtl_grammar.specs.Calls.{replace, substr, substr_rest, range_of
 ghost use Rattle.vtl_grammar.specs.Reading.{maybe, firsts, below};
 ghost use Rattle.vtl_cursor.specs.Limits.{limits};
 ghost use Rattle.vtl_cursor.specs.Plain.{read_plain};
-ghost use Rattle.vtl_cursor.specs.Views.{GivesDeep, ShowsDeep, mark_of};
+ghost use Rattle.vtl_grammar.specs.Words.{mark_of};
+ghost use Rattle.vtl_cursor.specs.Views.{GivesDeep, ShowsDeep};
 ghost use Rattle.vtl_parser.specs.Forms.{window_of, read_form, one_form, two_form};
 ghost use Rattle.vtl_parser.specs.Nested.{ReadsBelow};
 
 use crate::ending::{code, level, one_operand_end, two_operands_end};
 use crate::form::{OneOperand, TwoOperands, window_of};
-use crate::mark::{is_mark, pass};
 use crate::parser::Parser;
 use sqlite_items::Boxed;
 use std::alloc::Global;
 use vtl_cursor::components::grouping;
-use vtl_cursor::outputs::check_output;
 use vtl_cursor::windows::over;
-use vtl_cursor::{Cursor, Mark, Stop};
+use vtl_cursor::{Cursor, Mark, Stop, optional_choice};
 use vtl_syntax::words::{AggregateFunction, SetFunction};
 use vtl_syntax::{Expr, Groups, SubstrRange};
 use vtl_tokens::{Keyword, Sign};
@@ -69,10 +68,10 @@ impl<F: Fn(Global, &mut Cursor<'_>, u8, u8) -> Result<(Boxed<Expr>, u8), Stop> +
         requires { ReadsBelow self.now.depth (F.pre self.now.expression) (F.post self.now.expression) }
         ensures { ShowsDeep (λ v. option_map second v) cursor.new.tokens.now result (maybe (firsts (mark (mark_of wanted))) (read_plain limits (below limits self.now.depth) (mark (mark_of wanted) ▸ expr 0)) cursor.old.tokens.now) }
     {
-        if !is_mark(cursor, wanted) {
+        if !cursor.is_mark(wanted) {
             return Ok((None, 0));
         }
-        pass(cursor, wanted)?;
+        cursor.pass(wanted)?;
         let (operand, levels) = self.operand(cursor, 0)?;
         Ok((Some(operand), levels))
     }
@@ -259,7 +258,7 @@ impl<F: Fn(Global, &mut Cursor<'_>, u8, u8) -> Result<(Boxed<Expr>, u8), Stop> +
         let code = code(cursor)?;
         let level = level(cursor)?;
         let (imbalance, in_imbalance) = self.after(cursor, Mark::Word(Keyword::Imbalance))?;
-        let output = check_output(cursor)?;
+        let output = optional_choice(cursor);
         cursor.sign(Sign::RightParen)?;
         let expr = Expr::Check {
             operand,

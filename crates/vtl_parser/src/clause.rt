@@ -12,8 +12,7 @@ use crate::parser::{ListItem, Parser};
 use crate::plain_clause::{drop_clause, keep_clause, rename_clause, sub_clause, unpivot_clause};
 use sqlite_items::Boxed;
 use std::alloc::Global;
-use vtl_cursor::components::item_role;
-use vtl_cursor::{Cursor, Limit, Stop};
+use vtl_cursor::{Cursor, Limit, Stop, optional_choice};
 use vtl_syntax::{Clause, Expr, Item};
 use vtl_tokens::{Keyword, Sign};
 use vtl_values::Place;
@@ -126,7 +125,7 @@ impl ListItem for Item {
         cursor: &mut Cursor<'_>,
     ) -> Result<(Self, u8), Stop> {
         let place = cursor.first_place();
-        let role = item_role(cursor)?;
+        let role = optional_choice(cursor);
         let name = cursor.name()?;
         cursor.sign(Sign::Assign)?;
         let (expr, levels) = parser.operand(cursor, 0)?;

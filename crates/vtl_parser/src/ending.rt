@@ -18,11 +18,10 @@ use sqlite_items::Boxed;
 use std::alloc::Global;
 use vtl_cursor::literals::{literal, signed_integer};
 use vtl_cursor::outputs::{
-    check_input, component, component_before_input, digits, error_code, error_level, exists_rows,
-    fill_span, hierarchy_input, hierarchy_output, mode, rows_output,
+    component, component_before_input, digits, error_code, error_level, exists_rows, fill_span,
 };
 use vtl_cursor::windows::over;
-use vtl_cursor::{Cursor, Stop, commas};
+use vtl_cursor::{Cursor, Stop, commas, optional_choice};
 use vtl_syntax::Expr;
 use vtl_syntax::words::{
     BinaryFunction, DifferenceFunction, InSign, OffsetFunction, RoundFunction, TimeFunction,
@@ -244,7 +243,7 @@ fn check_datapoint(
 {
     cursor.sign(Sign::Comma)?;
     let ruleset = cursor.name()?;
-    let output = rows_output(cursor)?;
+    let output = optional_choice(cursor);
     cursor.sign(Sign::RightParen)?;
     let expr = Expr::CheckDatapoint {
         operand,
@@ -267,9 +266,9 @@ fn hierarchy(
     cursor.sign(Sign::Comma)?;
     let ruleset = cursor.name()?;
     let component = component_before_input(cursor)?;
-    let mode = mode(cursor)?;
-    let input = hierarchy_input(cursor)?;
-    let output = hierarchy_output(cursor)?;
+    let mode = optional_choice(cursor);
+    let input = optional_choice(cursor);
+    let output = optional_choice(cursor);
     cursor.sign(Sign::RightParen)?;
     let expr = Expr::Hierarchy {
         operand,
@@ -295,9 +294,9 @@ fn check_hierarchy(
     cursor.sign(Sign::Comma)?;
     let ruleset = cursor.name()?;
     let component = component(cursor)?;
-    let mode = mode(cursor)?;
-    let input = check_input(cursor)?;
-    let output = rows_output(cursor)?;
+    let mode = optional_choice(cursor);
+    let input = optional_choice(cursor);
+    let output = optional_choice(cursor);
     cursor.sign(Sign::RightParen)?;
     let expr = Expr::CheckHierarchy {
         operand,

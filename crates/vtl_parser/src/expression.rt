@@ -13,7 +13,7 @@ ghost use Rattle.vtl_parser.specs.declared.form.SuffixForm.TheVariants as links;
 
 use crate::ending::{member, member_of_set, rank};
 use crate::form::{Infix, PrefixForm, SuffixForm};
-use crate::leaf::{head, joined, leaf, link};
+use crate::leaf::{call_of, head, joined, leaf, link};
 use crate::parser::Parser;
 use sqlite_items::{Boxed, Items};
 use std::alloc::Global;
@@ -232,15 +232,7 @@ impl<F: Fn(Global, &mut Cursor<'_>, u8, u8) -> Result<(Boxed<Expr>, u8), Stop> +
         ensures { GivesDeep cursor.new.tokens.now result (read_tail limits (below limits self.now.depth) (suffix_tail links.Call) operator bracket cursor.old.tokens.now) }
     {
         let (arguments, levels) = self.arguments(cursor)?;
-        let Expr::Name { name, place } = operator.into_inner() else {
-            unreachable!()
-        };
-        let expr = Expr::CallOf {
-            name,
-            arguments,
-            place,
-        };
-        Ok((Boxed::new(self.alloc, expr)?, levels))
+        Ok((call_of(self.alloc, operator.get(), arguments)?, levels))
     }
 
     /// Arguments with commas between them, if there are any, and the bracket after them.

@@ -282,6 +282,7 @@ impl Infix {
     ghost use Rattle.std.specs.Prelude.{◌≡◌, ◌≤◌};
     ghost use Rattle.vtl_parser.specs.Forms.{infix_precedence};
 
+    /// How tightly it holds its operands: one of a higher precedence stands inside one of a lower without brackets.
     pub fn precedence(self) -> u8
         ensures value { result ≡ infix_precedence self }
         ensures below_calls { result ≤ 5 }

@@ -1,11 +1,11 @@
 // What is read of an expression without another one inside it.
 ghost use Rattle.std.specs.Prelude.{◌≡◌, Some, IfOk, option_map};
 ghost use Rattle.vtl_syntax.specs.declared.expr.Expr.TheVariants as tree;
-ghost use Rattle.vtl_grammar.specs.Forms.{leaf_in, leaf_precedence};
-ghost use Rattle.vtl_parser.specs.Forms.{leaf_there, form_there, tail_there, prefix_form, suffix_tail, infix_tree};
+ghost use Rattle.vtl_grammar.specs.Forms.{leaf_in, leaf_precedence, name_in};
+ghost use Rattle.vtl_parser.specs.Forms.{leaf_there, form_there, tail_there, prefix_form, suffix_tail, infix_tree, IsName};
 
 use crate::form::{Infix, NAME, PrefixForm, SuffixForm, prefix_form_of, suffix_form_of};
-use sqlite_items::Boxed;
+use sqlite_items::{Boxed, Items};
 use std::alloc::{AllocError, Global};
 use vtl_cursor::Cursor;
 use vtl_syntax::Expr;
@@ -80,6 +80,26 @@ pub fn link(cursor: &Cursor) -> Option<(SuffixForm, Place)>
         [Token { what, place }, ..] => Some((suffix_form_of(what)?, *place)),
         [] => None,
     }
+}
+
+/// The call of the operator of that name.
+pub fn call_of(
+    alloc: Global,
+    operator: &Expr,
+    arguments: Items<Expr>,
+) -> Result<Boxed<Expr>, AllocError>
+    requires { IsName operator.now }
+    ensures { IfOk result (λ expr. expr ≡ tree.CallOf (name_in operator.now).value arguments (name_in operator.now).place) }
+{
+    let Expr::Name { name, place } = operator else {
+        unreachable!()
+    };
+    let expr = Expr::CallOf {
+        name: name.copy()?,
+        arguments,
+        place: *place,
+    };
+    Boxed::new(alloc, expr)
 }
 
 /// The expression with that word or sign between its operands.

@@ -21,7 +21,6 @@ mod form;
 #[tactic(auto, using(vtl_cursor::proofs::Shown::shown_deep))]
 mod join;
 mod leaf;
-mod mark;
 #[tactic(auto, using(vtl_cursor::proofs::Shown::shown_deep))]
 mod operators;
 #[tactic(auto, using(vtl_cursor::proofs::Shown::shown_deep))]

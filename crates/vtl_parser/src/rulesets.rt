@@ -8,7 +8,7 @@ ghost use Rattle.vtl_grammar.specs.Reading.{no_part, below, firsts, maybe};
 ghost use Rattle.vtl_cursor.specs.Limits.{limits};
 ghost use Rattle.vtl_cursor.specs.Plain.{read_plain};
 ghost use Rattle.vtl_cursor.specs.Views.{Shows, ShowsDeep};
-ghost use Rattle.vtl_parser.specs.RuleParts.{body_rule, body_of, variables_rule, variables_of, datapoint_parts, datapoint_parts_of, component_rule, component_of, conditions_rule, conditions_of, hierarchy_parts, hierarchy_parts_of, rule_read};
+ghost use Rattle.vtl_parser.specs.RuleParts.{body_rule, body_of, variables_rule, variables_of, datapoint_parts, datapoint_parts_of, component_rule, component_of, conditions_rule, conditions_of, hierarchy_parts, hierarchy_parts_of, sides_rule, sides_of, rule_read};
 ghost use Rattle.vtl_parser.specs.Nested.{ReadsBelow};
 
 use crate::definition::Definition;
@@ -16,8 +16,8 @@ use crate::parser::{ListItem, Parser};
 use sqlite_items::{Boxed, Items};
 use std::alloc::Global;
 use vtl_cursor::outputs::{error_code, error_level, label};
-use vtl_cursor::rules::{fault_part, optional_sign, relation, signed_names};
-use vtl_cursor::{Cursor, Limit, Stop, commas};
+use vtl_cursor::rules::{fault_part, signed_names};
+use vtl_cursor::{Cursor, Limit, Stop, choice, commas, optional_choice};
 use vtl_syntax::{
     DatapointRule, DatapointRules, Expr, FaultPart, HierarchyRule, HierarchyRules, Ruleset,
     Variable,
@@ -238,26 +238,40 @@ impl ListItem for HierarchyRule {
         let place = cursor.first_place();
         let name = label(cursor)?;
         let (condition, levels) = parser.condition(cursor)?;
-        let left = cursor.name()?;
-        let relation = relation(cursor)?;
-        let sign = optional_sign(cursor)?;
-        let first = cursor.name()?;
-        let others = signed_names(parser.alloc, cursor)?;
-        let code = error_code(cursor)?;
-        let level = error_level(cursor)?;
-        let rule = HierarchyRule {
-            name,
-            condition: unboxed(condition),
-            left: left.value,
-            relation,
-            sign,
-            first: first.value,
-            others,
-            fault: fault_part(code, level, place),
-            place,
-        };
+        let rule = sides(parser.alloc, cursor, name, unboxed(condition), place)?;
         Ok((rule, levels))
     }
+}
+
+/// What a rule of a hierarchy says behind its name and its condition.
+#[tactic(auto, using(vtl_cursor::proofs::Shown::shown, crate::proofs::RuleFaults::same_fault))]
+fn sides(
+    alloc: Global,
+    cursor: &mut Cursor,
+    name: Option<Word>,
+    condition: Option<Expr>,
+    place: Place,
+) -> Result<HierarchyRule, Stop>
+    ensures { Shows (sides_of name condition place) cursor.new.tokens.now result (read_plain limits no_part sides_rule cursor.old.tokens.now) }
+{
+    let left = cursor.name()?;
+    let relation = choice(cursor)?;
+    let sign = optional_choice(cursor);
+    let first = cursor.name()?;
+    let others = signed_names(alloc, cursor)?;
+    let code = error_code(cursor)?;
+    let level = error_level(cursor)?;
+    Ok(HierarchyRule {
+        name,
+        condition,
+        left: left.value,
+        relation,
+        sign,
+        first: first.value,
+        others,
+        fault: fault_part(code, level, place),
+        place,
+    })
 }
 
 /// `condition` and the variables of conditions, or nothing.

@@ -30,6 +30,7 @@ use Rattle.vtl_grammar.specs.Rules.{Rule, name, text, ◌▸◌, either, Of, At,
 use Rattle.vtl_grammar.specs.Clauses as g
 use Rattle.vtl_grammar.specs.Calls as c
 use Rattle.vtl_grammar.specs.Calls.{second}
+use Rattle.vtl_grammar.specs.Words.{chosen, rows_outputs, modes, hierarchy_inputs, hierarchy_outputs, check_inputs, check_outputs}
 use Rattle.vtl_spelling.specs.Kinds.{Kinds, ◌&◌, one, optional}
 use Rattle.vtl_spelling.specs.Kinds as k
 use Rattle.vtl_spelling.specs.Words.{join_kind, aggregate_kind, window_kind, offset_kind}
@@ -38,7 +39,7 @@ use Rattle.vtl_spelling.specs.Placeless.{nowhere, placeless, clause_placeless}
 use Rattle.vtl_spelling.proofs.Folds.{folded-Join, folded-Aggregate, folded-Window, folded-CountAll, folded-Offset, folded-Rank, folded-CheckDatapoint, folded-Hierarchy, folded-CheckHierarchy, folded-Check}
 use Rattle.vtl_spelling.proofs.Values.{value_spelled, value_placeless}
 use Rattle.vtl_spelling.proofs.Told.{Told, same_word, next, ap_three, ap_four, behind-told, optional-told, option-plain, option-same, map-told, map-plain}
-use Rattle.vtl_spelling.proofs.WordsTold.{rows_output-told, check_output-told, mode-told, hierarchy_input-told, hierarchy_output-told, check_input-told}
+use Rattle.vtl_spelling.proofs.WordsTold.{choice-told}
 use Rattle.vtl_spelling.proofs.PartsTold.{signed_integer-told, name-told, over-told}
 use Rattle.vtl_spelling.proofs.ClausesTold.{spelling, baring, optional-map, expr-told, groups-told}
 use Rattle.vtl_spelling.proofs.FormsTold.{FormTold, operand-told, more_operands-told, join_clause}
@@ -130,10 +131,10 @@ pub check_datapoint-told : FormTold (what.Reserved words.CheckDatapoint) c.check
 check_datapoint-told = record {
   low = lit< tt;
   tells = λ v p. (
-    folded-CheckDatapoint spelling v.1.0 v.1.1.1.0.value v.1.1.1.0.place (option_map c.rows_output_of v.1.1.1.1.0) p
-        ∙ ap (λ (x : Kinds). k.key words.CheckDatapoint & k.open_paren & spelled v.1.0 & k.comma & k.name v.1.1.1.0.value & x & k.close_paren) (optional-told _ _ _ _ rows_output-told v.1.1.1.1.0),
-    folded-CheckDatapoint baring v.1.0 v.1.1.1.0.value v.1.1.1.0.place (option_map c.rows_output_of v.1.1.1.1.0) p
-        ∙ ap (λ (x : Option RowsOutput). tree.CheckDatapoint (placeless v.1.0) v.1.1.1.0.value nowhere x nowhere) (option-same _ _ _ rows_output-told v.1.1.1.1.0),
+    folded-CheckDatapoint spelling v.1.0 v.1.1.1.0.value v.1.1.1.0.place (option_map (chosen rows_outputs) v.1.1.1.1.0) p
+        ∙ ap (λ (x : Kinds). k.key words.CheckDatapoint & k.open_paren & spelled v.1.0 & k.comma & k.name v.1.1.1.0.value & x & k.close_paren) (optional-told _ _ _ _ (choice-told rows_outputs) v.1.1.1.1.0),
+    folded-CheckDatapoint baring v.1.0 v.1.1.1.0.value v.1.1.1.0.place (option_map (chosen rows_outputs) v.1.1.1.1.0) p
+        ∙ ap (λ (x : Option RowsOutput). tree.CheckDatapoint (placeless v.1.0) v.1.1.1.0.value nowhere x nowhere) (option-same _ _ _ (choice-told rows_outputs) v.1.1.1.1.0),
   );
 }
 
@@ -144,12 +145,12 @@ hierarchy-told = record {
       let w : Text = v.1.1.1.0.value in
       let q : Place = v.1.1.1.0.place in
       let x = v.1.1.1.1 in (
-        folded-Hierarchy spelling v.1.0 w q (option_map (λ u. u.value) x.0) (option_map c.mode_of x.1.0) (option_map c.hierarchy_input_of x.1.1.0) (option_map c.hierarchy_output_of x.1.1.1.0) p
+        folded-Hierarchy spelling v.1.0 w q (option_map (λ u. u.value) x.0) (option_map (chosen modes) x.1.0) (option_map (chosen hierarchy_inputs) x.1.1.0) (option_map (chosen hierarchy_outputs) x.1.1.1.0) p
             ∙ ap (λ (ks : Kinds). k.key words.Hierarchy & k.open_paren & spelled v.1.0 & k.comma & k.name w & ks)
-            (next (optional-map (λ (u : Text). k.key words.Rule & k.name u) (λ (u : At Text). u.value) x.0) (next (optional-told _ _ _ _ mode-told x.1.0) (next (optional-told _ _ _ _ hierarchy_input-told x.1.1.0) (next (optional-told _ _ _ _ hierarchy_output-told x.1.1.1.0) refl)))),
-        folded-Hierarchy baring v.1.0 w q (option_map (λ u. u.value) x.0) (option_map c.mode_of x.1.0) (option_map c.hierarchy_input_of x.1.1.0) (option_map c.hierarchy_output_of x.1.1.1.0) p
+            (next (optional-map (λ (u : Text). k.key words.Rule & k.name u) (λ (u : At Text). u.value) x.0) (next (optional-told _ _ _ _ (choice-told modes) x.1.0) (next (optional-told _ _ _ _ (choice-told hierarchy_inputs) x.1.1.0) (next (optional-told _ _ _ _ (choice-told hierarchy_outputs) x.1.1.1.0) refl)))),
+        folded-Hierarchy baring v.1.0 w q (option_map (λ u. u.value) x.0) (option_map (chosen modes) x.1.0) (option_map (chosen hierarchy_inputs) x.1.1.0) (option_map (chosen hierarchy_outputs) x.1.1.1.0) p
             ∙ ap_four (λ (a : Option Text) (m : Option Mode) (i : Option HierarchyInput) (o : Option HierarchyOutput). tree.Hierarchy (placeless v.1.0) w nowhere a m i o nowhere)
-            (option-same _ _ _ name-told x.0) (option-same _ _ _ mode-told x.1.0) (option-same _ _ _ hierarchy_input-told x.1.1.0) (option-same _ _ _ hierarchy_output-told x.1.1.1.0),
+            (option-same _ _ _ name-told x.0) (option-same _ _ _ (choice-told modes) x.1.0) (option-same _ _ _ (choice-told hierarchy_inputs) x.1.1.0) (option-same _ _ _ (choice-told hierarchy_outputs) x.1.1.1.0),
       );
 }
 
@@ -163,12 +164,12 @@ check_hierarchy-told = record {
       let w : Text = v.1.1.1.0.value in
       let q : Place = v.1.1.1.0.place in
       let x = v.1.1.1.1 in (
-        folded-CheckHierarchy spelling v.1.0 w q (option_map (λ u. u.1.value) x.0) (option_map c.mode_of x.1.0) (option_map c.check_input_of x.1.1.0) (option_map c.rows_output_of x.1.1.1.0) p
+        folded-CheckHierarchy spelling v.1.0 w q (option_map (λ u. u.1.value) x.0) (option_map (chosen modes) x.1.0) (option_map (chosen check_inputs) x.1.1.0) (option_map (chosen rows_outputs) x.1.1.1.0) p
             ∙ ap (λ (ks : Kinds). k.key words.CheckHierarchy & k.open_paren & spelled v.1.0 & k.comma & k.name w & ks)
-            (next (optional-told _ _ _ _ component-told x.0) (next (optional-told _ _ _ _ mode-told x.1.0) (next (optional-told _ _ _ _ check_input-told x.1.1.0) (next (optional-told _ _ _ _ rows_output-told x.1.1.1.0) refl)))),
-        folded-CheckHierarchy baring v.1.0 w q (option_map (λ u. u.1.value) x.0) (option_map c.mode_of x.1.0) (option_map c.check_input_of x.1.1.0) (option_map c.rows_output_of x.1.1.1.0) p
+            (next (optional-told _ _ _ _ component-told x.0) (next (optional-told _ _ _ _ (choice-told modes) x.1.0) (next (optional-told _ _ _ _ (choice-told check_inputs) x.1.1.0) (next (optional-told _ _ _ _ (choice-told rows_outputs) x.1.1.1.0) refl)))),
+        folded-CheckHierarchy baring v.1.0 w q (option_map (λ u. u.1.value) x.0) (option_map (chosen modes) x.1.0) (option_map (chosen check_inputs) x.1.1.0) (option_map (chosen rows_outputs) x.1.1.1.0) p
             ∙ ap_four (λ (a : Option Text) (m : Option Mode) (i : Option CheckInput) (o : Option RowsOutput). tree.CheckHierarchy (placeless v.1.0) w nowhere a m i o nowhere)
-            (option-same _ _ _ component-told x.0) (option-same _ _ _ mode-told x.1.0) (option-same _ _ _ check_input-told x.1.1.0) (option-same _ _ _ rows_output-told x.1.1.1.0),
+            (option-same _ _ _ component-told x.0) (option-same _ _ _ (choice-told modes) x.1.0) (option-same _ _ _ (choice-told check_inputs) x.1.1.0) (option-same _ _ _ (choice-told rows_outputs) x.1.1.1.0),
       );
 }
 
@@ -186,12 +187,12 @@ check-told = record {
   low = lit< tt;
   tells = λ v p.
       let x = v.1.1 in (
-        folded-Check spelling v.1.0 (option_map (λ w. w.1.value) x.0) (option_map (λ w. g.signed_of w.1) x.1.0) (option_map second x.1.1.0) (option_map c.check_output_of x.1.1.1.0) p
+        folded-Check spelling v.1.0 (option_map (λ w. w.1.value) x.0) (option_map (λ w. g.signed_of w.1) x.1.0) (option_map second x.1.1.0) (option_map (chosen check_outputs) x.1.1.1.0) p
             ∙ ap (λ (ks : Kinds). k.key words.Check & k.open_paren & spelled v.1.0 & ks)
             (next (optional-told _ _ _ _ code-told x.0) (next (optional-told _ _ _ _ level-told x.1.0)
-            (next (optional-map (λ (ks : Kinds). k.key words.Imbalance & ks) spelled (option_map second x.1.1.0) ∙ optional-told _ _ _ _ imbalance-told x.1.1.0) (next (optional-told _ _ _ _ check_output-told x.1.1.1.0) refl)))),
-        folded-Check baring v.1.0 (option_map (λ w. w.1.value) x.0) (option_map (λ w. g.signed_of w.1) x.1.0) (option_map second x.1.1.0) (option_map c.check_output_of x.1.1.1.0) p
+            (next (optional-map (λ (ks : Kinds). k.key words.Imbalance & ks) spelled (option_map second x.1.1.0) ∙ optional-told _ _ _ _ imbalance-told x.1.1.0) (next (optional-told _ _ _ _ (choice-told check_outputs) x.1.1.1.0) refl)))),
+        folded-Check baring v.1.0 (option_map (λ w. w.1.value) x.0) (option_map (λ w. g.signed_of w.1) x.1.0) (option_map second x.1.1.0) (option_map (chosen check_outputs) x.1.1.1.0) p
             ∙ ap_four (λ (a : Option Text) (m : Option ℤ) (i : Option Expr) (o : Option CheckOutput). tree.Check (placeless v.1.0) a m i o nowhere)
-            (option-same _ _ _ code-told x.0) (option-same _ _ _ level-told x.1.0) (option-plain _ _ _ _ imbalance-told x.1.1.0) (option-same _ _ _ check_output-told x.1.1.1.0),
+            (option-same _ _ _ code-told x.0) (option-same _ _ _ level-told x.1.0) (option-plain _ _ _ _ imbalance-told x.1.1.0) (option-same _ _ _ (choice-told check_outputs) x.1.1.1.0),
       );
 }

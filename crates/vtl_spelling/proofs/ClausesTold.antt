@@ -20,6 +20,7 @@ use Rattle.vtl_syntax.specs.declared.expr.SubItem.{SubItem}
 use Rattle.vtl_grammar.specs.Marks.{key, sign}
 use Rattle.vtl_grammar.specs.Rules.{Rule, ◌▸◌, either, lists, Of, word, expr, listed, JoinPart, filtering, calculating, keeping, renaming}
 use Rattle.vtl_grammar.specs.Clauses as g
+use Rattle.vtl_grammar.specs.Words.{chosen, roles}
 use Rattle.vtl_spelling.specs.Kinds.{Kinds, ◌&◌, one, optional, separated}
 use Rattle.vtl_spelling.specs.Kinds as k
 use Rattle.vtl_spelling.specs.Parts as s
@@ -28,7 +29,7 @@ use Rattle.vtl_spelling.specs.Placeless.{nowhere, comp_placeless, rename_placele
 use Rattle.vtl_spelling.proofs.Folds.{Steps, groups_folded, item_folded, clause_folded-Filter, clause_folded-Calc, clause_folded-Keep, clause_folded-Drop, clause_folded-Rename, clause_folded-Sub, clause_folded-Unpivot, clause_folded-Aggr}
 use Rattle.vtl_spelling.proofs.Values.{value_spelled, value_placeless}
 use Rattle.vtl_spelling.proofs.Told.{Told, next, behind-told, optional-told, option-plain, option-same, listed-told, listed-plain}
-use Rattle.vtl_spelling.proofs.WordsTold.{role-told}
+use Rattle.vtl_spelling.proofs.WordsTold.{choice-told}
 use Rattle.vtl_spelling.proofs.PartsTold.{comp-told, renamed-told, sub_item-told, grouping-told}
 
 abbrev pub spelling : Steps
@@ -55,10 +56,10 @@ expr-told m = record { tells = λ e. (refl, refl) }
 pub item-told : Told g.item g.item_of item_spelled item_placeless
 item-told = record {
   tells = λ v.
-      let a = optional-told _ _ _ _ role-told v.1.0 in
-      let b = option-same _ _ _ role-told v.1.0 in (
-        item_folded spelling (option_map g.role_of v.1.0) v.1.1.0.value v.1.1.1.1 v.0 ∙ ap (λ (ks : Kinds). ks & k.name v.1.1.0.value & k.sig signs.Assign & spelled v.1.1.1.1) a,
-        item_folded baring (option_map g.role_of v.1.0) v.1.1.0.value v.1.1.1.1 v.0 ∙ cc,
+      let a = optional-told _ _ _ _ (choice-told roles) v.1.0 in
+      let b = option-same _ _ _ (choice-told roles) v.1.0 in (
+        item_folded spelling (option_map (chosen roles) v.1.0) v.1.1.0.value v.1.1.1.1 v.0 ∙ ap (λ (ks : Kinds). ks & k.name v.1.1.0.value & k.sig signs.Assign & spelled v.1.1.1.1) a,
+        item_folded baring (option_map (chosen roles) v.1.0) v.1.1.0.value v.1.1.1.1 v.0 ∙ cc,
       );
 }
 

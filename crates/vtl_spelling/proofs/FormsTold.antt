@@ -33,13 +33,14 @@ use Rattle.vtl_grammar.specs.Calls.{Form, second}
 use Rattle.vtl_grammar.specs.Forms.{top, conditional, bracket, signed_form}
 use Rattle.vtl_spelling.specs.Kinds.{Kinds, ◌&◌, one, optional}
 use Rattle.vtl_spelling.specs.Kinds as k
-use Rattle.vtl_spelling.specs.Words.{prefix_kind, unary_kind, round_kind, binary_kind, exists_rows_kind, set_kind, difference_kind, time_kind, fill_span_kind}
+use Rattle.vtl_grammar.specs.Words.{one_of, chosen, exists_rows, fill_spans}
+use Rattle.vtl_spelling.specs.Words.{written, prefix_kind, unary_kind, round_kind, binary_kind, set_kind, difference_kind, time_kind}
 use Rattle.vtl_spelling.specs.Trees.{spelled, clause_spelled, operand_spelled}
 use Rattle.vtl_spelling.specs.Placeless.{nowhere, placeless, operand_placeless}
 use Rattle.vtl_spelling.proofs.Folds.{operand_folded, range_folded, folded-If, folded-Bracket, folded-Signed, folded-Unary, folded-Round, folded-Binary, folded-Between, folded-MatchCharacters, folded-Substr, folded-Replace, folded-ExistsIn, folded-Sets, folded-Difference, folded-Time, folded-Timeshift, folded-FillTimeSeries}
 use Rattle.vtl_spelling.proofs.Values.{value_spelled, value_placeless}
 use Rattle.vtl_spelling.proofs.Told.{Told, same_word, behind-told, optional-told, option-plain, option-same, map-told, map-plain}
-use Rattle.vtl_spelling.proofs.WordsTold.{exists_rows-told, fill_span-told}
+use Rattle.vtl_spelling.proofs.WordsTold.{choice-told}
 use Rattle.vtl_spelling.proofs.PartsTold.{signed_integer-told, literal-told, name-told}
 use Rattle.vtl_spelling.proofs.ClausesTold.{spelling, baring, optional-map, expr-told}
 
@@ -139,29 +140,29 @@ timeshift-told = record {
       );
 }
 
-span-told : Told (comma ▸ c.fill_span_rule) (λ w. c.fill_span_of w.1) (λ w. k.comma & one (fill_span_kind w)) same_word
-span-told = behind-told (sign signs.Comma) c.fill_span_rule c.fill_span_of (λ w. one (fill_span_kind w)) same_word fill_span-told
+span-told : Told (comma ▸ one_of fill_spans) (λ w. chosen fill_spans w.1) (λ w. k.comma & one (written fill_spans w)) same_word
+span-told = behind-told (sign signs.Comma) (one_of fill_spans) (chosen fill_spans) (λ w. one (written fill_spans w)) same_word (choice-told fill_spans)
 
 pub fill_time_series-told : FormTold (what.Reserved words.FillTimeSeries) c.fill_time_series
 fill_time_series-told = record {
   low = lit< tt;
   tells = λ v p. (
-    folded-FillTimeSeries spelling v.1.0 (option_map (λ w. c.fill_span_of w.1) v.1.1.0) p ∙ ap (λ (x : Kinds). k.key words.FillTimeSeries & k.open_paren & spelled v.1.0 & x & k.close_paren) (optional-told _ _ _ _ span-told v.1.1.0),
-    folded-FillTimeSeries baring v.1.0 (option_map (λ w. c.fill_span_of w.1) v.1.1.0) p ∙ ap (λ (x : Option FillSpan). tree.FillTimeSeries (placeless v.1.0) x nowhere) (option-same _ _ _ span-told v.1.1.0),
+    folded-FillTimeSeries spelling v.1.0 (option_map (λ w. chosen fill_spans w.1) v.1.1.0) p ∙ ap (λ (x : Kinds). k.key words.FillTimeSeries & k.open_paren & spelled v.1.0 & x & k.close_paren) (optional-told _ _ _ _ span-told v.1.1.0),
+    folded-FillTimeSeries baring v.1.0 (option_map (λ w. chosen fill_spans w.1) v.1.1.0) p ∙ ap (λ (x : Option FillSpan). tree.FillTimeSeries (placeless v.1.0) x nowhere) (option-same _ _ _ span-told v.1.1.0),
   );
 }
 
 -- ---- sets and joins
 
-rows-told : Told (comma ▸ c.exists_rows_rule) (λ w. c.exists_rows_of w.1) (λ w. k.comma & one (exists_rows_kind w)) same_word
-rows-told = behind-told (sign signs.Comma) c.exists_rows_rule c.exists_rows_of (λ w. one (exists_rows_kind w)) same_word exists_rows-told
+rows-told : Told (comma ▸ one_of exists_rows) (λ w. chosen exists_rows w.1) (λ w. k.comma & one (written exists_rows w)) same_word
+rows-told = behind-told (sign signs.Comma) (one_of exists_rows) (chosen exists_rows) (λ w. one (written exists_rows w)) same_word (choice-told exists_rows)
 
 pub exists_in-told : FormTold (what.Reserved words.ExistsIn) c.exists_in
 exists_in-told = record {
   low = lit< tt;
   tells = λ v p. (
-    folded-ExistsIn spelling v.1.0 v.1.1.1.0 (option_map (λ w. c.exists_rows_of w.1) v.1.1.1.1.0) p ∙ ap (λ (x : Kinds). k.key words.ExistsIn & k.open_paren & spelled v.1.0 & k.comma & spelled v.1.1.1.0 & x & k.close_paren) (optional-told _ _ _ _ rows-told v.1.1.1.1.0),
-    folded-ExistsIn baring v.1.0 v.1.1.1.0 (option_map (λ w. c.exists_rows_of w.1) v.1.1.1.1.0) p ∙ ap (λ (x : Option ExistsRows). tree.ExistsIn (placeless v.1.0) (placeless v.1.1.1.0) x nowhere) (option-same _ _ _ rows-told v.1.1.1.1.0),
+    folded-ExistsIn spelling v.1.0 v.1.1.1.0 (option_map (λ w. chosen exists_rows w.1) v.1.1.1.1.0) p ∙ ap (λ (x : Kinds). k.key words.ExistsIn & k.open_paren & spelled v.1.0 & k.comma & spelled v.1.1.1.0 & x & k.close_paren) (optional-told _ _ _ _ rows-told v.1.1.1.1.0),
+    folded-ExistsIn baring v.1.0 v.1.1.1.0 (option_map (λ w. chosen exists_rows w.1) v.1.1.1.1.0) p ∙ ap (λ (x : Option ExistsRows). tree.ExistsIn (placeless v.1.0) (placeless v.1.1.1.0) x nowhere) (option-same _ _ _ rows-told v.1.1.1.1.0),
   );
 }
 

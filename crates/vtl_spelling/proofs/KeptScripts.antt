@@ -14,7 +14,8 @@ use Rattle.vtl_syntax.specs.declared.script.Statement.{Statement}
 use Rattle.vtl_syntax.specs.declared.script.Script.{Script}
 use Rattle.vtl_tokens.specs.declared.keyword.Keyword.TheVariants as words
 use Rattle.vtl_spelling.specs.Kinds.{Kinds, ◌&◌, one, key, name, optional, separated, comma}
-use Rattle.vtl_spelling.specs.Words.{relation_kind, sign_kind}
+use Rattle.vtl_grammar.specs.Words.{relations, plus_or_minus}
+use Rattle.vtl_spelling.specs.Words.{written}
 use Rattle.vtl_spelling.specs.Rulesets.{semicolon, variable_spelled, label, condition_spelled, fault_spelled, signed_name_spelled, datapoint_rule_spelled, hierarchy_rule_spelled, ruleset_spelled}
 use Rattle.vtl_spelling.specs.Operators.{param_spelled, returns_spelled, operator_spelled}
 use Rattle.vtl_spelling.specs.Scripts.{arrow, statement_spelled, script_spelled}
@@ -47,7 +48,7 @@ datapoint_rule-kept : (r : DatapointRule) → datapoint_rule_spelled (datapoint_
 datapoint_rule-kept r = ap₂ (λ (c e : Kinds). optional label r.name & c & e & fault_spelled r.fault) (condition-kept r.condition) (spelled-placeless r.expr)
 
 hierarchy_rule-kept : (r : HierarchyRule) → hierarchy_rule_spelled (hierarchy_rule_placeless r) ≡ hierarchy_rule_spelled r
-hierarchy_rule-kept r = ap₂ (λ (c k : Kinds). optional label r.name & c & name r.left & one (relation_kind r.relation) & optional (λ s. one (sign_kind s)) r.sign & name r.first & k & fault_spelled r.fault)
+hierarchy_rule-kept r = ap₂ (λ (c k : Kinds). optional label r.name & c & name r.left & one (written relations r.relation) & optional (λ s. one (written plus_or_minus s)) r.sign & name r.first & k & fault_spelled r.fault)
     (condition-kept r.condition) (each-kept signed_name_placeless signed_name_spelled (λ s. refl) r.others)
 
 variables-kept : (vs : List Variable) → separated comma variable_spelled (map variable_placeless vs) ≡ separated comma variable_spelled vs

@@ -14,19 +14,20 @@ use Rattle.vtl_grammar.specs.Operators as g
 use Rattle.vtl_grammar.specs.Scripts.{definition}
 use Rattle.vtl_spelling.specs.Kinds.{Kinds, ◌&◌, one, optional}
 use Rattle.vtl_spelling.specs.Kinds as k
-use Rattle.vtl_spelling.specs.Words.{sort_kind}
+use Rattle.vtl_grammar.specs.Words.{one_of, chosen, sorts}
+use Rattle.vtl_spelling.specs.Words.{written}
 use Rattle.vtl_spelling.specs.Rulesets as s
 use Rattle.vtl_spelling.specs.Trees.{spelled}
 use Rattle.vtl_spelling.specs.Operators.{param_spelled, returns_spelled, operator_spelled}
 use Rattle.vtl_spelling.specs.Placeless.{nowhere, placeless, param_placeless, operator_placeless}
 use Rattle.vtl_spelling.proofs.Values.{value_spelled, value_placeless}
 use Rattle.vtl_spelling.proofs.Told.{Told, same_word, behind-told, optional-told, option-same, listed-told, listed-plain}
-use Rattle.vtl_spelling.proofs.WordsTold.{sort-told}
+use Rattle.vtl_spelling.proofs.WordsTold.{choice-told}
 
 param-told : Told g.param g.param_of param_spelled param_placeless
 param-told = record {
   tells = λ v.
-      let e = sort-told.tells v.1 in
+      let e = (choice-told sorts).tells v.1 in
       (ap (λ (ks : Kinds). k.name v.0.value & ks) e.0, ap (λ (x : Sort). made v.0.value x) e.1);
 }
   where
@@ -41,8 +42,8 @@ params-plain : (x : Option (Of g.params)) → map param_placeless (g.params_of x
 params-plain None = refl
 params-plain (Some v) = listed-plain g.param g.param_of param_spelled param_placeless param-told parameters (sign signs.Comma) v
 
-returns-told : Told (word words.Returns ▸ g.sort_rule) (λ w. g.sort_rule_of w.1) returns_spelled same_word
-returns-told = behind-told (key words.Returns) g.sort_rule g.sort_rule_of (λ x. one (sort_kind x)) same_word sort-told
+returns-told : Told (word words.Returns ▸ one_of sorts) (λ w. chosen sorts w.1) returns_spelled same_word
+returns-told = behind-told (key words.Returns) (one_of sorts) (chosen sorts) (λ x. one (written sorts x)) same_word (choice-told sorts)
 
 abbrev pub defined_of : Kinds → Kinds → Kinds → Kinds → Kinds
 defined_of n ps r e = k.key words.Operator & n & k.open_paren & ps & k.close_paren & r & k.key words.Is & e & k.key words.End & k.key words.Operator

@@ -13,6 +13,7 @@ use Rattle.vtl_grammar.specs.Marks.{key, sign}
 use Rattle.vtl_grammar.specs.Rules.{name, ◌▸◌, lists, Of, word, commas, listed}
 use Rattle.vtl_grammar.specs.Clauses as g
 use Rattle.vtl_grammar.specs.Calls as c
+use Rattle.vtl_grammar.specs.Words.{group_words}
 use Rattle.vtl_spelling.specs.Kinds.{Kinds, ◌&◌, one, optional}
 use Rattle.vtl_spelling.specs.Kinds as k
 use Rattle.vtl_spelling.specs.Parts as s
@@ -20,7 +21,7 @@ use Rattle.vtl_spelling.specs.Placeless.{nowhere, comp_placeless, rename_placele
 use Rattle.vtl_spelling.proofs.Values.{minus_of, size_of, value_spelled, value_placeless}
 use Rattle.vtl_spelling.proofs.Formed.{lone, signed-lone}
 use Rattle.vtl_spelling.proofs.Told.{Told, same_word, behind-told, optional-told, option-plain, option-same, listed-told, listed-plain, listed-same}
-use Rattle.vtl_spelling.proofs.WordsTold.{group_word-told}
+use Rattle.vtl_spelling.proofs.WordsTold.{choice-told}
 
 -- ---- numbers
 
@@ -82,7 +83,7 @@ pub grouping-told : Told g.grouping g.grouping_of s.grouping_spelled grouping_pl
 grouping-told = record {
   tells = λ v.
       let e = names-told.tells v.1.1 in
-      let w = group_word-told.tells v.1.0 in
+      let w = (choice-told group_words).tells v.1.0 in
       (let a = e.0 in let b = w.0 in cc, let a = e.1 in let b = w.1 in cc);
 }
 

@@ -23,14 +23,15 @@ use Rattle.vtl_grammar.specs.Rulesets as g
 use Rattle.vtl_grammar.specs.Scripts.{definition, statement_rule, statement_of}
 use Rattle.vtl_spelling.specs.Kinds.{Kinds, ◌&◌, one, optional}
 use Rattle.vtl_spelling.specs.Kinds as k
-use Rattle.vtl_spelling.specs.Words.{relation_kind, sign_kind}
+use Rattle.vtl_grammar.specs.Words.{one_of, chosen, relations, plus_or_minus}
+use Rattle.vtl_spelling.specs.Words.{written}
 use Rattle.vtl_spelling.specs.Trees.{spelled}
 use Rattle.vtl_spelling.specs.Rulesets as s
 use Rattle.vtl_spelling.specs.Scripts.{statement_spelled}
 use Rattle.vtl_spelling.specs.Placeless.{nowhere, placeless, variable_placeless, fault_placeless, signed_name_placeless, datapoint_rule_placeless, hierarchy_rule_placeless, ruleset_placeless, statement_placeless}
 use Rattle.vtl_spelling.proofs.Values.{value_spelled, value_placeless}
 use Rattle.vtl_spelling.proofs.Told.{Told, next, ap_three, ap_four, behind-told, optional-told, option-plain, option-same, map-told, map-plain, listed-told, listed-plain}
-use Rattle.vtl_spelling.proofs.WordsTold.{relation-told, sign-told}
+use Rattle.vtl_spelling.proofs.WordsTold.{choice-told}
 use Rattle.vtl_spelling.proofs.PartsTold.{name-told}
 use Rattle.vtl_spelling.proofs.ClausesTold.{optional-map}
 use Rattle.vtl_spelling.proofs.CallsTold.{level-told}
@@ -100,24 +101,24 @@ signed_name-told = record { tells = by_case }
 
 -- the sides of a rule
 abbrev sides : Rule
-sides = name ▸ g.relation_rule ▸ option g.plus_or_minus (repeated lists name g.signed_name)
+sides = name ▸ one_of relations ▸ option (one_of plus_or_minus) (repeated lists name g.signed_name)
 
-sides-told : (v : Of sides) → k.name v.0.value & one (relation_kind (g.relation_of v.1.0)) & optional (λ x. one (sign_kind x)) (option_map g.sign_of v.1.1.0) & k.name v.1.1.1.0.value & flat_map s.signed_name_spelled (map g.signed_name_of v.1.1.1.1) ≡ value_spelled sides v
-sides-told v = ap (λ (ks : Kinds). k.name v.0.value & ks) (next (relation-told.tells v.1.0).0 (next (optional-told _ _ _ _ sign-told v.1.1.0) (ap (λ (ks : Kinds). k.name v.1.1.1.0.value & ks) (map-told _ _ _ _ signed_name-told v.1.1.1.1))))
+sides-told : (v : Of sides) → k.name v.0.value & one (written relations (chosen relations v.1.0)) & optional (λ x. one (written plus_or_minus x)) (option_map (chosen plus_or_minus) v.1.1.0) & k.name v.1.1.1.0.value & flat_map s.signed_name_spelled (map g.signed_name_of v.1.1.1.1) ≡ value_spelled sides v
+sides-told v = ap (λ (ks : Kinds). k.name v.0.value & ks) (next ((choice-told relations).tells v.1.0).0 (next (optional-told _ _ _ _ (choice-told plus_or_minus) v.1.1.0) (ap (λ (ks : Kinds). k.name v.1.1.1.0.value & ks) (map-told _ _ _ _ signed_name-told v.1.1.1.1))))
 
 hierarchy_rule-told : Told g.hierarchy_rule g.hierarchy_rule_of s.hierarchy_rule_spelled hierarchy_rule_placeless
 hierarchy_rule-told = record {
   tells = λ v.
       let x = v.1.1.1.0.0 in
-      let sign : Kinds = optional (λ y. one (sign_kind y)) (option_map g.sign_of x.1.1.0) in
+      let sign : Kinds = optional (λ y. one (written plus_or_minus y)) (option_map (chosen plus_or_minus) x.1.1.0) in
       let last : Kinds = k.name x.1.1.1.0.value & flat_map s.signed_name_spelled (map g.signed_name_of x.1.1.1.1) in
       let fault = g.fault_of v.1.1.1.0.1 v.1.1.1.1 v.0 in (
         next (named v.1.0) (next (optional-told _ _ _ _ condition-told v.1.1.0)
-            (ap (λ (ks : Kinds). k.name x.0.value & one (relation_kind (g.relation_of x.1.0)) & ks) (sym (append_assoc sign last (s.fault_spelled fault)))
+            (ap (λ (ks : Kinds). k.name x.0.value & one (written relations (chosen relations x.1.0)) & ks) (sym (append_assoc sign last (s.fault_spelled fault)))
             ∙ ap (λ (ks : Kinds). ks & s.fault_spelled fault) (sides-told x)
             ∙ behind_fault (value_spelled sides x) v.1.1.1.0.1 v.1.1.1.1 v.0)),
-        ap_four (λ (n : Option Text) (c : Option Expr) (r : Relation) (f : HierarchyRule). record f { name = n; condition = c; relation = r }) (option-same _ _ _ name-told v.1.0) (option-plain _ _ _ _ condition-told v.1.1.0) (relation-told.tells x.1.0).1
-            (ap_three (λ (y : Option Sign) (ns : List SignedName) (f : FaultPart). made x.0.value y x.1.1.1.0.value ns f) (option-same _ _ _ sign-told x.1.1.0) (map-plain _ _ _ _ signed_name-told x.1.1.1.1) (fault-told v.1.1.1.0.1 v.1.1.1.1 v.0).1),
+        ap_four (λ (n : Option Text) (c : Option Expr) (r : Relation) (f : HierarchyRule). record f { name = n; condition = c; relation = r }) (option-same _ _ _ name-told v.1.0) (option-plain _ _ _ _ condition-told v.1.1.0) ((choice-told relations).tells x.1.0).1
+            (ap_three (λ (y : Option Sign) (ns : List SignedName) (f : FaultPart). made x.0.value y x.1.1.1.0.value ns f) (option-same _ _ _ (choice-told plus_or_minus) x.1.1.0) (map-plain _ _ _ _ signed_name-told x.1.1.1.1) (fault-told v.1.1.1.0.1 v.1.1.1.1 v.0).1),
       );
 }
   where

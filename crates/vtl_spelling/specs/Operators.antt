@@ -4,15 +4,16 @@ use Rattle.vtl_syntax.specs.declared.words.Sort.{Sort}
 use Rattle.vtl_syntax.specs.declared.operator.Param.{Param}
 use Rattle.vtl_syntax.specs.declared.operator.DefinedOperator.{DefinedOperator}
 use Rattle.vtl_spelling.specs.Kinds.{Kinds, ◌&◌, one, key, commas, open_paren, close_paren, optional, name}
-use Rattle.vtl_spelling.specs.Words.{sort_kind}
+use Rattle.vtl_grammar.specs.Words.{sorts}
+use Rattle.vtl_spelling.specs.Words.{written}
 use Rattle.vtl_spelling.specs.Trees.{spelled}
 use Rattle.vtl_spelling.specs.Rulesets.{semicolon}
 
 abbrev pub param_spelled : Param → Kinds
-param_spelled p = name p.name & one (sort_kind p.sort)
+param_spelled p = name p.name & one (written sorts p.sort)
 
 abbrev pub returns_spelled : Sort → Kinds
-returns_spelled s = key words.Returns & one (sort_kind s)
+returns_spelled s = key words.Returns & one (written sorts s)
 
 -- what stands after `define`
 abbrev pub defined_spelled : DefinedOperator → Kinds

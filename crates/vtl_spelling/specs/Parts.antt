@@ -17,7 +17,8 @@ use Rattle.vtl_syntax.specs.declared.words.WindowStart.TheVariants as start
 use Rattle.vtl_syntax.specs.declared.words.WindowEnd.{WindowEnd}
 use Rattle.vtl_syntax.specs.declared.words.WindowEnd.TheVariants as stop
 use Rattle.vtl_spelling.specs.Kinds.{Kinds, ◌&◌, one, key, sig, commas, open_paren, close_paren, optional, name, text, integer, signed, signed_integer}
-use Rattle.vtl_spelling.specs.Words.{group_word_kind, direction_kind}
+use Rattle.vtl_grammar.specs.Words.{group_words, directions}
+use Rattle.vtl_spelling.specs.Words.{written}
 
 abbrev pub truth : Bool → Kinds
 truth true = key words.True
@@ -52,10 +53,10 @@ abbrev pub sub_item_spelled : SubItem → Kinds
 sub_item_spelled i = name i.name & sig signs.Equal & literal_spelled i.value
 
 abbrev pub grouping_spelled : Grouping → Kinds
-grouping_spelled g = key words.Group & one (group_word_kind g.word) & names_spelled g.names
+grouping_spelled g = key words.Group & one (written group_words g.word) & names_spelled g.names
 
 abbrev pub order_item_spelled : OrderItem → Kinds
-order_item_spelled i = name i.name & optional (λ d. one (direction_kind d)) i.direction
+order_item_spelled i = name i.name & optional (λ d. one (written directions d)) i.direction
 
 abbrev pub current_point : Kinds
 current_point = key words.Current & key words.Data & key words.Point

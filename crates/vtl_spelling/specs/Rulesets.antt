@@ -14,7 +14,8 @@ use Rattle.vtl_syntax.specs.declared.ruleset.HierarchyRule.{HierarchyRule}
 use Rattle.vtl_syntax.specs.declared.ruleset.DatapointRules.{DatapointRules}
 use Rattle.vtl_syntax.specs.declared.ruleset.HierarchyRules.{HierarchyRules}
 use Rattle.vtl_spelling.specs.Kinds.{Kinds, ◌&◌, one, key, sig, commas, separated, open_paren, close_paren, optional, name, text, signed_integer}
-use Rattle.vtl_spelling.specs.Words.{relation_kind, sign_kind}
+use Rattle.vtl_grammar.specs.Words.{relations, plus_or_minus}
+use Rattle.vtl_spelling.specs.Words.{written}
 use Rattle.vtl_spelling.specs.Trees.{spelled}
 
 abbrev pub semicolon : Kinds
@@ -33,13 +34,13 @@ abbrev pub fault_spelled : FaultPart → Kinds
 fault_spelled f = optional (λ t. key words.Errorcode & text t) f.code & optional (λ z. key words.Errorlevel & signed_integer z) f.level
 
 abbrev pub signed_name_spelled : SignedName → Kinds
-signed_name_spelled s = one (sign_kind s.sign) & name s.name
+signed_name_spelled s = one (written plus_or_minus s.sign) & name s.name
 
 abbrev pub datapoint_rule_spelled : DatapointRule → Kinds
 datapoint_rule_spelled r = optional label r.name & optional condition_spelled r.condition & spelled r.expr & fault_spelled r.fault
 
 abbrev pub hierarchy_rule_spelled : HierarchyRule → Kinds
-hierarchy_rule_spelled r = optional label r.name & optional condition_spelled r.condition & name r.left & one (relation_kind r.relation) & optional (λ s. one (sign_kind s)) r.sign & name r.first & flat_map signed_name_spelled r.others & fault_spelled r.fault
+hierarchy_rule_spelled r = optional label r.name & optional condition_spelled r.condition & name r.left & one (written relations r.relation) & optional (λ s. one (written plus_or_minus s)) r.sign & name r.first & flat_map signed_name_spelled r.others & fault_spelled r.fault
 
 abbrev pub datapoint_rules_spelled : DatapointRules → Kinds
 datapoint_rules_spelled d = key words.Datapoint & key words.Ruleset & name d.name & open_paren & key words.Variable & commas variable_spelled d.variables & close_paren

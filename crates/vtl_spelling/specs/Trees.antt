@@ -10,7 +10,8 @@ use Rattle.vtl_syntax.specs.declared.expr.JoinOperand.{JoinOperand, fold-JoinOpe
 use Rattle.vtl_syntax.specs.declared.expr.SubstrRange.{SubstrRange, fold-SubstrRange}
 use Rattle.vtl_syntax.specs.declared.expr.Clause.TheOpen.{Expr-F, Clause-F, Groups-F, Item-F, JoinOperand-F, SubstrRange-F}
 use Rattle.vtl_spelling.specs.Kinds.{Kinds, ◌&◌, one, key, sig, comma, commas, open_paren, close_paren, optional, name, text, integer, signed_integer}
-use Rattle.vtl_spelling.specs.Words.{or_kind, comparison_kind, in_kind, sum_kind, product_kind, prefix_kind, unary_kind, round_kind, binary_kind, exists_rows_kind, set_kind, difference_kind, join_kind, aggregate_kind, window_kind, offset_kind, rows_output_kind, check_output_kind, mode_kind, hierarchy_input_kind, hierarchy_output_kind, check_input_kind, role_kind, time_kind, fill_span_kind}
+use Rattle.vtl_grammar.specs.Words.{exists_rows, rows_outputs, check_outputs, modes, hierarchy_inputs, hierarchy_outputs, check_inputs, roles, fill_spans}
+use Rattle.vtl_spelling.specs.Words.{written, or_kind, comparison_kind, in_kind, sum_kind, product_kind, prefix_kind, unary_kind, round_kind, binary_kind, set_kind, difference_kind, join_kind, aggregate_kind, window_kind, offset_kind, time_kind}
 use Rattle.vtl_spelling.specs.Parts.{literal_spelled, unsigned_spelled, comp_spelled, rename_spelled, sub_item_spelled, grouping_spelled, over_spelled}
 
 -- what is spelled already
@@ -43,7 +44,7 @@ expr_step (Expr-F.Between a u v p) = call (key words.Between) (a & comma & liter
 expr_step (Expr-F.MatchCharacters a t p) = call (key words.MatchCharacters) (a & comma & text t & close_paren)
 expr_step (Expr-F.Substr a r p) = call (key words.Substr) (a & optional it r & close_paren)
 expr_step (Expr-F.Replace a b c p) = call (key words.Replace) (a & comma & b & optional (λ k. comma & k) c & close_paren)
-expr_step (Expr-F.ExistsIn a b r p) = call (key words.ExistsIn) (a & comma & b & optional (λ w. comma & one (exists_rows_kind w)) r & close_paren)
+expr_step (Expr-F.ExistsIn a b r p) = call (key words.ExistsIn) (a & comma & b & optional (λ w. comma & one (written exists_rows w)) r & close_paren)
 expr_step (Expr-F.Sets f a b cs p) = call (one (set_kind f)) (a & comma & b & flat_map (λ k. comma & k) cs & close_paren)
 expr_step (Expr-F.Difference f a b p) = call (one (difference_kind f)) (a & comma & b & close_paren)
 expr_step (Expr-F.Join f a b cs u v w x p) = call (one (join_kind f)) (a & comma & b & flat_map (λ k. comma & k) cs & optional it u & optional it v & optional it w & optional it x & close_paren)
@@ -52,13 +53,13 @@ expr_step (Expr-F.Window f a o p) = call (one (window_kind f)) (a & over_spelled
 expr_step (Expr-F.CountAll p) = call (key words.Count) close_paren
 expr_step (Expr-F.Offset f a n o p) = call (one (offset_kind f)) (a & comma & integer n & over_spelled o & close_paren)
 expr_step (Expr-F.Rank o p) = call (key words.Rank) (over_spelled o & close_paren)
-expr_step (Expr-F.CheckDatapoint a r q o p) = call (key words.CheckDatapoint) (a & comma & name r & optional (λ w. one (rows_output_kind w)) o & close_paren)
-expr_step (Expr-F.Hierarchy a r q c m i o p) = call (key words.Hierarchy) (a & comma & name r & optional (λ w. key words.Rule & name w) c & optional (λ w. one (mode_kind w)) m & optional (λ w. one (hierarchy_input_kind w)) i & optional (λ w. one (hierarchy_output_kind w)) o & close_paren)
-expr_step (Expr-F.CheckHierarchy a r q c m i o p) = call (key words.CheckHierarchy) (a & comma & name r & optional (λ w. key words.Rule & name w) c & optional (λ w. one (mode_kind w)) m & optional (λ w. one (check_input_kind w)) i & optional (λ w. one (rows_output_kind w)) o & close_paren)
-expr_step (Expr-F.Check a c l i o p) = call (key words.Check) (a & optional (λ t. key words.Errorcode & text t) c & optional (λ z. key words.Errorlevel & signed_integer z) l & optional (λ k. key words.Imbalance & k) i & optional (λ w. one (check_output_kind w)) o & close_paren)
+expr_step (Expr-F.CheckDatapoint a r q o p) = call (key words.CheckDatapoint) (a & comma & name r & optional (λ w. one (written rows_outputs w)) o & close_paren)
+expr_step (Expr-F.Hierarchy a r q c m i o p) = call (key words.Hierarchy) (a & comma & name r & optional (λ w. key words.Rule & name w) c & optional (λ w. one (written modes w)) m & optional (λ w. one (written hierarchy_inputs w)) i & optional (λ w. one (written hierarchy_outputs w)) o & close_paren)
+expr_step (Expr-F.CheckHierarchy a r q c m i o p) = call (key words.CheckHierarchy) (a & comma & name r & optional (λ w. key words.Rule & name w) c & optional (λ w. one (written modes w)) m & optional (λ w. one (written check_inputs w)) i & optional (λ w. one (written rows_outputs w)) o & close_paren)
+expr_step (Expr-F.Check a c l i o p) = call (key words.Check) (a & optional (λ t. key words.Errorcode & text t) c & optional (λ z. key words.Errorlevel & signed_integer z) l & optional (λ k. key words.Imbalance & k) i & optional (λ w. one (written check_outputs w)) o & close_paren)
 expr_step (Expr-F.Time f a p) = call (one (time_kind f)) (a & close_paren)
 expr_step (Expr-F.Timeshift a z p) = call (key words.Timeshift) (a & comma & signed_integer z & close_paren)
-expr_step (Expr-F.FillTimeSeries a s p) = call (key words.FillTimeSeries) (a & optional (λ w. comma & one (fill_span_kind w)) s & close_paren)
+expr_step (Expr-F.FillTimeSeries a s p) = call (key words.FillTimeSeries) (a & optional (λ w. comma & one (written fill_spans w)) s & close_paren)
 expr_step (Expr-F.CallOf w as' p) = call (name w) (commas it as' & close_paren)
 expr_step (Expr-F.Typed s a p) = a
 
@@ -76,7 +77,7 @@ abbrev pub groups_step : Groups-F Kinds Kinds Kinds Kinds Kinds Kinds → Kinds
 groups_step g = grouping_spelled g.grouping & optional (λ k. key words.Having & k) g.having
 
 abbrev pub item_step : Item-F Kinds Kinds Kinds Kinds Kinds Kinds → Kinds
-item_step i = optional (λ r. one (role_kind r)) i.role & name i.name & sig signs.Assign & i.expr
+item_step i = optional (λ r. one (written roles r)) i.role & name i.name & sig signs.Assign & i.expr
 
 abbrev pub operand_step : JoinOperand-F Kinds Kinds Kinds Kinds Kinds Kinds → Kinds
 operand_step o = o.expr & optional (λ w. key words.As & name w) o.alias

@@ -5,6 +5,8 @@ use Rattle.vtl_tokens.specs.declared.sign.Sign.{Sign as TokenSign}
 use Rattle.vtl_tokens.specs.declared.sign.Sign.TheVariants as s
 use Rattle.vtl_tokens.specs.declared.token.TokenKind.{TokenKind}
 use Rattle.vtl_tokens.specs.declared.token.TokenKind.TheVariants.{Reserved, Sign as OfSign}
+use Rattle.vtl_grammar.specs.Marks.{kind_of}
+use Rattle.vtl_grammar.specs.Words.{Words}
 use Rattle.vtl_syntax.specs.declared.words.OrSign.{OrSign}
 use Rattle.vtl_syntax.specs.declared.words.OrSign.TheVariants as or_sign
 use Rattle.vtl_syntax.specs.declared.words.Comparison.{Comparison}
@@ -23,8 +25,6 @@ use Rattle.vtl_syntax.specs.declared.words.RoundFunction.{RoundFunction}
 use Rattle.vtl_syntax.specs.declared.words.RoundFunction.TheVariants as round_function
 use Rattle.vtl_syntax.specs.declared.words.BinaryFunction.{BinaryFunction}
 use Rattle.vtl_syntax.specs.declared.words.BinaryFunction.TheVariants as binary_function
-use Rattle.vtl_syntax.specs.declared.words.ExistsRows.{ExistsRows}
-use Rattle.vtl_syntax.specs.declared.words.ExistsRows.TheVariants as exists_rows
 use Rattle.vtl_syntax.specs.declared.words.SetFunction.{SetFunction}
 use Rattle.vtl_syntax.specs.declared.words.SetFunction.TheVariants as set_function
 use Rattle.vtl_syntax.specs.declared.words.DifferenceFunction.{DifferenceFunction}
@@ -37,34 +37,14 @@ use Rattle.vtl_syntax.specs.declared.words.WindowFunction.{WindowFunction}
 use Rattle.vtl_syntax.specs.declared.words.WindowFunction.TheVariants as window_function
 use Rattle.vtl_syntax.specs.declared.words.OffsetFunction.{OffsetFunction}
 use Rattle.vtl_syntax.specs.declared.words.OffsetFunction.TheVariants as offset_function
-use Rattle.vtl_syntax.specs.declared.words.RowsOutput.{RowsOutput}
-use Rattle.vtl_syntax.specs.declared.words.RowsOutput.TheVariants as rows_output
-use Rattle.vtl_syntax.specs.declared.words.CheckOutput.{CheckOutput}
-use Rattle.vtl_syntax.specs.declared.words.CheckOutput.TheVariants as check_output
-use Rattle.vtl_syntax.specs.declared.words.Mode.{Mode}
-use Rattle.vtl_syntax.specs.declared.words.Mode.TheVariants as mode
-use Rattle.vtl_syntax.specs.declared.words.HierarchyInput.{HierarchyInput}
-use Rattle.vtl_syntax.specs.declared.words.HierarchyInput.TheVariants as hierarchy_input
-use Rattle.vtl_syntax.specs.declared.words.HierarchyOutput.{HierarchyOutput}
-use Rattle.vtl_syntax.specs.declared.words.HierarchyOutput.TheVariants as hierarchy_output
-use Rattle.vtl_syntax.specs.declared.words.CheckInput.{CheckInput}
-use Rattle.vtl_syntax.specs.declared.words.CheckInput.TheVariants as check_input
-use Rattle.vtl_syntax.specs.declared.words.ItemRole.{ItemRole}
-use Rattle.vtl_syntax.specs.declared.words.ItemRole.TheVariants as item_role
-use Rattle.vtl_syntax.specs.declared.words.GroupWord.{GroupWord}
-use Rattle.vtl_syntax.specs.declared.words.GroupWord.TheVariants as group_word
-use Rattle.vtl_syntax.specs.declared.words.Direction.{Direction}
-use Rattle.vtl_syntax.specs.declared.words.Direction.TheVariants as direction
-use Rattle.vtl_syntax.specs.declared.words.Relation.{Relation}
-use Rattle.vtl_syntax.specs.declared.words.Relation.TheVariants as relation
-use Rattle.vtl_syntax.specs.declared.words.Sign.{Sign}
-use Rattle.vtl_syntax.specs.declared.words.Sign.TheVariants as sign
 use Rattle.vtl_syntax.specs.declared.words.TimeFunction.{TimeFunction}
 use Rattle.vtl_syntax.specs.declared.words.TimeFunction.TheVariants as time_function
-use Rattle.vtl_syntax.specs.declared.words.FillSpan.{FillSpan}
-use Rattle.vtl_syntax.specs.declared.words.FillSpan.TheVariants as fill_span
-use Rattle.vtl_syntax.specs.declared.words.Sort.{Sort}
-use Rattle.vtl_syntax.specs.declared.words.Sort.TheVariants as sort
+
+-- the token that writes a choice of that table
+abbrev pub written : {A : Type 0} → Words A → A → TokenKind
+written w x = kind_of (w.marked x)
+
+-- ---- words and signs with which forms begin or go on
 
 -- a reserved word
 abbrev pub key : Keyword → TokenKind
@@ -125,11 +105,6 @@ binary_kind binary_function.Mod = key w.Mod
 binary_kind binary_function.Nvl = key w.Nvl
 binary_kind binary_function.Instr = key w.Instr
 
-abbrev pub exists_rows_kind : ExistsRows → TokenKind
-exists_rows_kind exists_rows.All = key w.All
-exists_rows_kind exists_rows.True = key w.True
-exists_rows_kind exists_rows.False = key w.False
-
 abbrev pub set_kind : SetFunction → TokenKind
 set_kind set_function.Union = key w.Union
 set_kind set_function.Intersect = key w.Intersect
@@ -167,71 +142,7 @@ abbrev pub offset_kind : OffsetFunction → TokenKind
 offset_kind offset_function.Lag = key w.Lag
 offset_kind offset_function.Lead = key w.Lead
 
-abbrev pub rows_output_kind : RowsOutput → TokenKind
-rows_output_kind rows_output.Invalid = key w.Invalid
-rows_output_kind rows_output.All = key w.All
-rows_output_kind rows_output.AllMeasures = key w.AllMeasures
-
-abbrev pub check_output_kind : CheckOutput → TokenKind
-check_output_kind check_output.All = key w.All
-check_output_kind check_output.Invalid = key w.Invalid
-
-abbrev pub mode_kind : Mode → TokenKind
-mode_kind mode.NonNull = key w.NonNull
-mode_kind mode.NonZero = key w.NonZero
-mode_kind mode.PartialNull = key w.PartialNull
-mode_kind mode.PartialZero = key w.PartialZero
-mode_kind mode.AlwaysNull = key w.AlwaysNull
-mode_kind mode.AlwaysZero = key w.AlwaysZero
-
-abbrev pub hierarchy_input_kind : HierarchyInput → TokenKind
-hierarchy_input_kind hierarchy_input.Rule = key w.Rule
-hierarchy_input_kind hierarchy_input.Dataset = key w.Dataset
-hierarchy_input_kind hierarchy_input.RulePriority = key w.RulePriority
-
-abbrev pub hierarchy_output_kind : HierarchyOutput → TokenKind
-hierarchy_output_kind hierarchy_output.Computed = key w.Computed
-hierarchy_output_kind hierarchy_output.All = key w.All
-
-abbrev pub check_input_kind : CheckInput → TokenKind
-check_input_kind check_input.Dataset = key w.Dataset
-check_input_kind check_input.DatasetPriority = key w.DatasetPriority
-
-abbrev pub role_kind : ItemRole → TokenKind
-role_kind item_role.Measure = key w.Measure
-role_kind item_role.Attribute = key w.Attribute
-
-abbrev pub group_word_kind : GroupWord → TokenKind
-group_word_kind group_word.By = key w.By
-group_word_kind group_word.Except = key w.Except
-
-abbrev pub direction_kind : Direction → TokenKind
-direction_kind direction.Ascending = key w.Asc
-direction_kind direction.Descending = key w.Desc
-
-abbrev pub relation_kind : Relation → TokenKind
-relation_kind relation.Equal = sig s.Equal
-relation_kind relation.Less = sig s.LessThan
-relation_kind relation.Greater = sig s.GreaterThan
-relation_kind relation.AtMost = sig s.AtMost
-relation_kind relation.AtLeast = sig s.AtLeast
-
-abbrev pub sign_kind : Sign → TokenKind
-sign_kind sign.Plus = sig s.Plus
-sign_kind sign.Minus = sig s.Minus
-
 abbrev pub time_kind : TimeFunction → TokenKind
 time_kind time_function.FlowToStock = key w.FlowToStock
 time_kind time_function.StockToFlow = key w.StockToFlow
 time_kind time_function.PeriodIndicator = key w.PeriodIndicator
-
-abbrev pub fill_span_kind : FillSpan → TokenKind
-fill_span_kind fill_span.All = key w.All
-fill_span_kind fill_span.Single = key w.Single
-
-abbrev pub sort_kind : Sort → TokenKind
-sort_kind sort.Dataset = key w.Dataset
-sort_kind sort.Integer = key w.Integer
-sort_kind sort.Number = key w.Number
-sort_kind sort.Text = key w.String
-sort_kind sort.Truth = key w.Boolean

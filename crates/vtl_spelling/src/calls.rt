@@ -1,10 +1,13 @@
 // What stands in a call behind its first operand, and in a set.
 ghost use Rattle.std.specs.Prelude.{◌≡◌, ◌++◌, OnOk};
 ghost use Rattle.vtl_spelling.specs.Kinds.{◌&◌, one, key, sig, comma, commas, open_paren, close_paren, optional, name, text as text_kind, integer as integer_kind, signed_integer};
-ghost use Rattle.vtl_spelling.specs.Words.{in_kind, exists_rows_kind, rows_output_kind, check_output_kind, mode_kind, hierarchy_input_kind, hierarchy_output_kind, check_input_kind, fill_span_kind};
+ghost use Rattle.vtl_grammar.specs.Words.{exists_rows, rows_outputs, check_outputs, modes, hierarchy_inputs, hierarchy_outputs, check_inputs, fill_spans};
+ghost use Rattle.vtl_spelling.specs.Words.{in_kind, written};
 ghost use Rattle.vtl_spelling.specs.Parts.{literal_spelled, over_spelled};
 
-use crate::kinds::{Choice, Spell, both, chosen, integer, push, separated, text, worded};
+use crate::kinds::{
+    FormWord, Spell, both, chosen, integer, push, separated, text, worded, written,
+};
 use sqlite_items::Items;
 use std::alloc::AllocError;
 use vtl_syntax::Over;
@@ -48,12 +51,12 @@ pub(crate) fn shift(shift: &Integer, out: &mut Vec<TokenKind>) -> Result<(), All
 }
 
 pub(crate) fn span(span: &Option<FillSpan>, out: &mut Vec<TokenKind>) -> Result<(), AllocError>
-    ensures { OnOk result (out.new.items ≡ out.old.items ++ (optional (λ w. comma & one (fill_span_kind w)) span.now & close_paren)) }
+    ensures { OnOk result (out.new.items ≡ out.old.items ++ (optional (λ w. comma & one (written fill_spans w)) span.now & close_paren)) }
 {
     match span {
         Some(span) => {
             Sign::Comma.spell(out)?;
-            push(span.kind(), out)?;
+            push(written(*span), out)?;
             Sign::RightParen.spell(out)
         }
         None => Sign::RightParen.spell(out),
@@ -77,12 +80,12 @@ pub(crate) fn pattern(pattern: &Word, out: &mut Vec<TokenKind>) -> Result<(), Al
 }
 
 pub(crate) fn rows(rows: &Option<ExistsRows>, out: &mut Vec<TokenKind>) -> Result<(), AllocError>
-    ensures { OnOk result (out.new.items ≡ out.old.items ++ (optional (λ w. comma & one (exists_rows_kind w)) rows.now & close_paren)) }
+    ensures { OnOk result (out.new.items ≡ out.old.items ++ (optional (λ w. comma & one (written exists_rows w)) rows.now & close_paren)) }
 {
     match rows {
         Some(rows) => {
             Sign::Comma.spell(out)?;
-            push(rows.kind(), out)?;
+            push(written(*rows), out)?;
             Sign::RightParen.spell(out)
         }
         None => Sign::RightParen.spell(out),
@@ -120,7 +123,7 @@ pub(crate) fn datapoint_check(
     output: &Option<RowsOutput>,
     out: &mut Vec<TokenKind>,
 ) -> Result<(), AllocError>
-    ensures { OnOk result (out.new.items ≡ out.old.items ++ (comma & name «ruleset».now & optional (λ w. one (rows_output_kind w)) output.now & close_paren)) }
+    ensures { OnOk result (out.new.items ≡ out.old.items ++ (comma & name «ruleset».now & optional (λ w. one (written rows_outputs w)) output.now & close_paren)) }
 {
     both(&Sign::Comma, ruleset, out)?;
     chosen(output, out)?;
@@ -134,7 +137,7 @@ pub(crate) fn hierarchy(
     output: &Option<HierarchyOutput>,
     out: &mut Vec<TokenKind>,
 ) -> Result<(), AllocError>
-    ensures { OnOk result (out.new.items ≡ out.old.items ++ (optional (λ w. key Keyword.Rule & name w) component.now & optional (λ w. one (mode_kind w)) mode.now & optional (λ w. one (hierarchy_input_kind w)) input.now & optional (λ w. one (hierarchy_output_kind w)) output.now & close_paren)) }
+    ensures { OnOk result (out.new.items ≡ out.old.items ++ (optional (λ w. key Keyword.Rule & name w) component.now & optional (λ w. one (written modes w)) mode.now & optional (λ w. one (written hierarchy_inputs w)) input.now & optional (λ w. one (written hierarchy_outputs w)) output.now & close_paren)) }
 {
     worded(Keyword::Rule, component, out)?;
     chosen(mode, out)?;
@@ -150,7 +153,7 @@ pub(crate) fn hierarchy_check(
     output: &Option<RowsOutput>,
     out: &mut Vec<TokenKind>,
 ) -> Result<(), AllocError>
-    ensures { OnOk result (out.new.items ≡ out.old.items ++ (optional (λ w. key Keyword.Rule & name w) component.now & optional (λ w. one (mode_kind w)) mode.now & optional (λ w. one (check_input_kind w)) input.now & optional (λ w. one (rows_output_kind w)) output.now & close_paren)) }
+    ensures { OnOk result (out.new.items ≡ out.old.items ++ (optional (λ w. key Keyword.Rule & name w) component.now & optional (λ w. one (written modes w)) mode.now & optional (λ w. one (written check_inputs w)) input.now & optional (λ w. one (written rows_outputs w)) output.now & close_paren)) }
 {
     worded(Keyword::Rule, component, out)?;
     chosen(mode, out)?;
@@ -185,7 +188,7 @@ pub(crate) fn check_output(
     output: &Option<CheckOutput>,
     out: &mut Vec<TokenKind>,
 ) -> Result<(), AllocError>
-    ensures { OnOk result (out.new.items ≡ out.old.items ++ (optional (λ w. one (check_output_kind w)) output.now & close_paren)) }
+    ensures { OnOk result (out.new.items ≡ out.old.items ++ (optional (λ w. one (written check_outputs w)) output.now & close_paren)) }
 {
     chosen(output, out)?;
     Sign::RightParen.spell(out)

@@ -3,9 +3,11 @@ ghost use Rattle.std.specs.Prelude.{◌≡◌, ◌++◌, OnOk};
 ghost use Rattle.std.specs.List.{flat_map};
 ghost use Rattle.vtl_spelling.specs.Kinds.{Kinds, ◌&◌, one, optional, separated};
 ghost use Rattle.vtl_spelling.specs.Kinds as kinds;
+ghost use Rattle.vtl_spelling.specs.Words.{written};
 ghost use Rattle.vtl_tokens.specs.declared.token.TokenKind.{TokenKind};
 
 use std::alloc::AllocError;
+use vtl_grammar::{Choice, Mark};
 use vtl_tokens::{Keyword, Sign, TokenKind};
 use vtl_values::{Decimal, Integer, Word};
 
@@ -25,12 +27,22 @@ pub(crate) fn push(kind: TokenKind, out: &mut Vec<TokenKind>) -> Result<(), Allo
     Ok(())
 }
 
-/// A choice between words or signs, which is one token.
-pub(crate) trait Choice {
-    ghost choice: { Self → TokenKind };
+/// A word or a sign with which a form begins or goes on, which is one token.
+pub(crate) trait FormWord {
+    ghost form_word: { Self → TokenKind };
 
     fn kind(&self) -> TokenKind
-        ensures { result ≡ choice self.now };
+        ensures { result ≡ form_word self.now };
+}
+
+/// The token that writes a choice between words or signs.
+pub(crate) fn written<C: Choice>(choice: C) -> TokenKind
+    ensures { result ≡ written C.words choice }
+{
+    match choice.mark() {
+        Mark::Word(word) => TokenKind::Reserved(word),
+        Mark::Sign(sign) => TokenKind::Sign(sign),
+    }
 }
 
 impl Spell for Keyword {
@@ -76,10 +88,10 @@ pub(crate) fn chosen<C: Choice>(
     choice: &Option<C>,
     out: &mut Vec<TokenKind>,
 ) -> Result<(), AllocError>
-    ensures { OnOk result (out.new.items ≡ out.old.items ++ optional (λ c. one (C.choice c)) choice.now) }
+    ensures { OnOk result (out.new.items ≡ out.old.items ++ optional (λ c. one (written C.words c)) choice.now) }
 {
     match choice {
-        Some(choice) => push(choice.kind(), out),
+        Some(choice) => push(written(*choice), out),
         None => Ok(()),
     }
 }

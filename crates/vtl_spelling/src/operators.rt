@@ -3,7 +3,7 @@ ghost use Rattle.std.specs.Prelude.{◌≡◌, ◌++◌, OnOk};
 ghost use Rattle.vtl_spelling.specs.Kinds.{optional};
 ghost use Rattle.vtl_spelling.specs.Operators.{param_spelled, returns_spelled, defined_spelled, operator_spelled};
 
-use crate::kinds::{Choice, Spell, both, push, separated};
+use crate::kinds::{Spell, both, push, separated, written};
 use crate::trees::expr;
 use std::alloc::AllocError;
 use vtl_syntax::words::Sort;
@@ -15,7 +15,7 @@ impl Spell for Param {
 
     fn spell(&self, out: &mut Vec<TokenKind>) -> Result<(), AllocError> {
         self.name.spell(out)?;
-        push(self.sort.kind(), out)
+        push(written(self.sort), out)
     }
 }
 
@@ -26,7 +26,7 @@ fn returns(sort: &Option<Sort>, out: &mut Vec<TokenKind>) -> Result<(), AllocErr
         return Ok(());
     };
     Keyword::Returns.spell(out)?;
-    push(sort.kind(), out)
+    push(written(*sort), out)
 }
 
 /// What stands after `define`.

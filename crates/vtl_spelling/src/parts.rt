@@ -3,7 +3,7 @@ ghost use Rattle.std.specs.Prelude.{◌≡◌, ◌++◌, OnOk};
 ghost use Rattle.vtl_spelling.specs.Kinds.{◌&◌, key, sig, name, commas, optional};
 ghost use Rattle.vtl_spelling.specs.Parts.{literal_spelled, unsigned_spelled, names_spelled, comp_spelled, rename_spelled, sub_item_spelled, grouping_spelled, order_item_spelled, current_point, window_start_spelled, window_end_spelled, points_spelled, over_spelled};
 
-use crate::kinds::{Choice, Spell, both, chosen, integer, optional, push, separated, text};
+use crate::kinds::{Spell, both, chosen, integer, optional, push, separated, text, written};
 use sqlite_items::Items;
 use std::alloc::AllocError;
 use vtl_syntax::words::{WindowEnd, WindowStart};
@@ -88,7 +88,7 @@ impl Spell for Grouping {
 
     fn spell(&self, out: &mut Vec<TokenKind>) -> Result<(), AllocError> {
         Keyword::Group.spell(out)?;
-        push(self.word.kind(), out)?;
+        push(written(self.word), out)?;
         names(&self.names, out)
     }
 }

@@ -4,7 +4,7 @@ ghost use Rattle.vtl_spelling.specs.Kinds.{◌&◌, key, optional, commas};
 ghost use Rattle.vtl_spelling.specs.Rulesets.{variable_spelled, label, condition_spelled, fault_spelled, signed_name_spelled, datapoint_rule_spelled, hierarchy_rule_spelled, datapoint_rules_spelled, hierarchy_rules_spelled, ruleset_spelled};
 
 use crate::calls::fault;
-use crate::kinds::{Choice, Spell, both, chosen, each, push, separated, worded};
+use crate::kinds::{Spell, both, chosen, each, push, separated, worded, written};
 use crate::trees::expr;
 use sqlite_items::Items;
 use std::alloc::AllocError;
@@ -28,7 +28,7 @@ impl Spell for SignedName {
     ghost spelled = { signed_name_spelled };
 
     fn spell(&self, out: &mut Vec<TokenKind>) -> Result<(), AllocError> {
-        push(self.sign.kind(), out)?;
+        push(written(self.sign), out)?;
         self.name.spell(out)
     }
 }
@@ -79,7 +79,7 @@ impl Spell for HierarchyRule {
         rule_name(&self.name, out)?;
         condition(&self.condition, out)?;
         self.left.spell(out)?;
-        push(self.relation.kind(), out)?;
+        push(written(self.relation), out)?;
         chosen(&self.sign, out)?;
         self.first.spell(out)?;
         each(self.others.as_slice(), out)?;

@@ -9,7 +9,7 @@ use crate::calls::{
     check_output, count_all, datapoint_check, digits, fault, hierarchy, hierarchy_check, in_set,
     limits, offset, pattern, rank, rows, shift, span,
 };
-use crate::kinds::{Choice, Spell, both, chosen, push, separated, worded};
+use crate::kinds::{FormWord, Spell, both, chosen, push, separated, worded};
 use crate::parts::unsigned;
 use sqlite_items::Boxed;
 use std::alloc::AllocError;

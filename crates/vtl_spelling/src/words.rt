@@ -1,18 +1,16 @@
-// Choices between words or signs: each is one token.
-ghost use Rattle.vtl_spelling.specs.Words.{or_kind, comparison_kind, in_kind, sum_kind, product_kind, prefix_kind, unary_kind, round_kind, binary_kind, exists_rows_kind, set_kind, difference_kind, join_kind, aggregate_kind, window_kind, offset_kind, rows_output_kind, check_output_kind, mode_kind, hierarchy_input_kind, hierarchy_output_kind, check_input_kind, role_kind, group_word_kind, direction_kind, relation_kind, sign_kind, time_kind, fill_span_kind, sort_kind};
+// Words and signs with which forms begin or go on: each is one token.
+ghost use Rattle.vtl_spelling.specs.Words.{or_kind, comparison_kind, in_kind, sum_kind, product_kind, prefix_kind, unary_kind, round_kind, binary_kind, set_kind, difference_kind, join_kind, aggregate_kind, window_kind, offset_kind, time_kind};
 
-use crate::kinds::Choice;
-use vtl_syntax::words as choices;
+use crate::kinds::FormWord;
 use vtl_syntax::words::{
-    AggregateFunction, BinaryFunction, CheckInput, CheckOutput, Comparison, DifferenceFunction,
-    Direction, ExistsRows, FillSpan, GroupWord, HierarchyInput, HierarchyOutput, InSign, ItemRole,
-    JoinFunction, Mode, OffsetFunction, OrSign, Prefix, ProductSign, Relation, RoundFunction,
-    RowsOutput, SetFunction, Sort, SumSign, TimeFunction, UnaryFunction, WindowFunction,
+    AggregateFunction, BinaryFunction, Comparison, DifferenceFunction, InSign, JoinFunction,
+    OffsetFunction, OrSign, Prefix, ProductSign, RoundFunction, SetFunction, SumSign, TimeFunction,
+    UnaryFunction, WindowFunction,
 };
 use vtl_tokens::{Keyword, Sign, TokenKind};
 
-impl Choice for OrSign {
-    ghost choice = { or_kind };
+impl FormWord for OrSign {
+    ghost form_word = { or_kind };
 
     fn kind(&self) -> TokenKind {
         match self {
@@ -22,8 +20,8 @@ impl Choice for OrSign {
     }
 }
 
-impl Choice for Comparison {
-    ghost choice = { comparison_kind };
+impl FormWord for Comparison {
+    ghost form_word = { comparison_kind };
 
     fn kind(&self) -> TokenKind {
         match self {
@@ -37,8 +35,8 @@ impl Choice for Comparison {
     }
 }
 
-impl Choice for InSign {
-    ghost choice = { in_kind };
+impl FormWord for InSign {
+    ghost form_word = { in_kind };
 
     fn kind(&self) -> TokenKind {
         match self {
@@ -48,8 +46,8 @@ impl Choice for InSign {
     }
 }
 
-impl Choice for SumSign {
-    ghost choice = { sum_kind };
+impl FormWord for SumSign {
+    ghost form_word = { sum_kind };
 
     fn kind(&self) -> TokenKind {
         match self {
@@ -60,8 +58,8 @@ impl Choice for SumSign {
     }
 }
 
-impl Choice for ProductSign {
-    ghost choice = { product_kind };
+impl FormWord for ProductSign {
+    ghost form_word = { product_kind };
 
     fn kind(&self) -> TokenKind {
         match self {
@@ -71,8 +69,8 @@ impl Choice for ProductSign {
     }
 }
 
-impl Choice for Prefix {
-    ghost choice = { prefix_kind };
+impl FormWord for Prefix {
+    ghost form_word = { prefix_kind };
 
     fn kind(&self) -> TokenKind {
         match self {
@@ -83,8 +81,8 @@ impl Choice for Prefix {
     }
 }
 
-impl Choice for UnaryFunction {
-    ghost choice = { unary_kind };
+impl FormWord for UnaryFunction {
+    ghost form_word = { unary_kind };
 
     fn kind(&self) -> TokenKind {
         match self {
@@ -102,8 +100,8 @@ impl Choice for UnaryFunction {
     }
 }
 
-impl Choice for RoundFunction {
-    ghost choice = { round_kind };
+impl FormWord for RoundFunction {
+    ghost form_word = { round_kind };
 
     fn kind(&self) -> TokenKind {
         match self {
@@ -113,8 +111,8 @@ impl Choice for RoundFunction {
     }
 }
 
-impl Choice for BinaryFunction {
-    ghost choice = { binary_kind };
+impl FormWord for BinaryFunction {
+    ghost form_word = { binary_kind };
 
     fn kind(&self) -> TokenKind {
         match self {
@@ -125,20 +123,8 @@ impl Choice for BinaryFunction {
     }
 }
 
-impl Choice for ExistsRows {
-    ghost choice = { exists_rows_kind };
-
-    fn kind(&self) -> TokenKind {
-        match self {
-            ExistsRows::All => TokenKind::Reserved(Keyword::All),
-            ExistsRows::True => TokenKind::Reserved(Keyword::True),
-            ExistsRows::False => TokenKind::Reserved(Keyword::False),
-        }
-    }
-}
-
-impl Choice for SetFunction {
-    ghost choice = { set_kind };
+impl FormWord for SetFunction {
+    ghost form_word = { set_kind };
 
     fn kind(&self) -> TokenKind {
         match self {
@@ -148,8 +134,8 @@ impl Choice for SetFunction {
     }
 }
 
-impl Choice for DifferenceFunction {
-    ghost choice = { difference_kind };
+impl FormWord for DifferenceFunction {
+    ghost form_word = { difference_kind };
 
     fn kind(&self) -> TokenKind {
         match self {
@@ -159,8 +145,8 @@ impl Choice for DifferenceFunction {
     }
 }
 
-impl Choice for JoinFunction {
-    ghost choice = { join_kind };
+impl FormWord for JoinFunction {
+    ghost form_word = { join_kind };
 
     fn kind(&self) -> TokenKind {
         match self {
@@ -172,8 +158,8 @@ impl Choice for JoinFunction {
     }
 }
 
-impl Choice for AggregateFunction {
-    ghost choice = { aggregate_kind };
+impl FormWord for AggregateFunction {
+    ghost form_word = { aggregate_kind };
 
     fn kind(&self) -> TokenKind {
         match self {
@@ -187,8 +173,8 @@ impl Choice for AggregateFunction {
     }
 }
 
-impl Choice for WindowFunction {
-    ghost choice = { window_kind };
+impl FormWord for WindowFunction {
+    ghost form_word = { window_kind };
 
     fn kind(&self) -> TokenKind {
         match self {
@@ -205,8 +191,8 @@ impl Choice for WindowFunction {
     }
 }
 
-impl Choice for OffsetFunction {
-    ghost choice = { offset_kind };
+impl FormWord for OffsetFunction {
+    ghost form_word = { offset_kind };
 
     fn kind(&self) -> TokenKind {
         match self {
@@ -216,169 +202,14 @@ impl Choice for OffsetFunction {
     }
 }
 
-impl Choice for RowsOutput {
-    ghost choice = { rows_output_kind };
-
-    fn kind(&self) -> TokenKind {
-        match self {
-            RowsOutput::Invalid => TokenKind::Reserved(Keyword::Invalid),
-            RowsOutput::All => TokenKind::Reserved(Keyword::All),
-            RowsOutput::AllMeasures => TokenKind::Reserved(Keyword::AllMeasures),
-        }
-    }
-}
-
-impl Choice for CheckOutput {
-    ghost choice = { check_output_kind };
-
-    fn kind(&self) -> TokenKind {
-        match self {
-            CheckOutput::All => TokenKind::Reserved(Keyword::All),
-            CheckOutput::Invalid => TokenKind::Reserved(Keyword::Invalid),
-        }
-    }
-}
-
-impl Choice for Mode {
-    ghost choice = { mode_kind };
-
-    fn kind(&self) -> TokenKind {
-        match self {
-            Mode::NonNull => TokenKind::Reserved(Keyword::NonNull),
-            Mode::NonZero => TokenKind::Reserved(Keyword::NonZero),
-            Mode::PartialNull => TokenKind::Reserved(Keyword::PartialNull),
-            Mode::PartialZero => TokenKind::Reserved(Keyword::PartialZero),
-            Mode::AlwaysNull => TokenKind::Reserved(Keyword::AlwaysNull),
-            Mode::AlwaysZero => TokenKind::Reserved(Keyword::AlwaysZero),
-        }
-    }
-}
-
-impl Choice for HierarchyInput {
-    ghost choice = { hierarchy_input_kind };
-
-    fn kind(&self) -> TokenKind {
-        match self {
-            HierarchyInput::Rule => TokenKind::Reserved(Keyword::Rule),
-            HierarchyInput::Dataset => TokenKind::Reserved(Keyword::Dataset),
-            HierarchyInput::RulePriority => TokenKind::Reserved(Keyword::RulePriority),
-        }
-    }
-}
-
-impl Choice for HierarchyOutput {
-    ghost choice = { hierarchy_output_kind };
-
-    fn kind(&self) -> TokenKind {
-        match self {
-            HierarchyOutput::Computed => TokenKind::Reserved(Keyword::Computed),
-            HierarchyOutput::All => TokenKind::Reserved(Keyword::All),
-        }
-    }
-}
-
-impl Choice for CheckInput {
-    ghost choice = { check_input_kind };
-
-    fn kind(&self) -> TokenKind {
-        match self {
-            CheckInput::Dataset => TokenKind::Reserved(Keyword::Dataset),
-            CheckInput::DatasetPriority => TokenKind::Reserved(Keyword::DatasetPriority),
-        }
-    }
-}
-
-impl Choice for ItemRole {
-    ghost choice = { role_kind };
-
-    fn kind(&self) -> TokenKind {
-        match self {
-            ItemRole::Measure => TokenKind::Reserved(Keyword::Measure),
-            ItemRole::Attribute => TokenKind::Reserved(Keyword::Attribute),
-        }
-    }
-}
-
-impl Choice for GroupWord {
-    ghost choice = { group_word_kind };
-
-    fn kind(&self) -> TokenKind {
-        match self {
-            GroupWord::By => TokenKind::Reserved(Keyword::By),
-            GroupWord::Except => TokenKind::Reserved(Keyword::Except),
-        }
-    }
-}
-
-impl Choice for Direction {
-    ghost choice = { direction_kind };
-
-    fn kind(&self) -> TokenKind {
-        match self {
-            Direction::Ascending => TokenKind::Reserved(Keyword::Asc),
-            Direction::Descending => TokenKind::Reserved(Keyword::Desc),
-        }
-    }
-}
-
-impl Choice for Relation {
-    ghost choice = { relation_kind };
-
-    fn kind(&self) -> TokenKind {
-        match self {
-            Relation::Equal => TokenKind::Sign(Sign::Equal),
-            Relation::Less => TokenKind::Sign(Sign::LessThan),
-            Relation::Greater => TokenKind::Sign(Sign::GreaterThan),
-            Relation::AtMost => TokenKind::Sign(Sign::AtMost),
-            Relation::AtLeast => TokenKind::Sign(Sign::AtLeast),
-        }
-    }
-}
-
-impl Choice for choices::Sign {
-    ghost choice = { sign_kind };
-
-    fn kind(&self) -> TokenKind {
-        match self {
-            choices::Sign::Plus => TokenKind::Sign(Sign::Plus),
-            choices::Sign::Minus => TokenKind::Sign(Sign::Minus),
-        }
-    }
-}
-
-impl Choice for TimeFunction {
-    ghost choice = { time_kind };
+impl FormWord for TimeFunction {
+    ghost form_word = { time_kind };
 
     fn kind(&self) -> TokenKind {
         match self {
             TimeFunction::FlowToStock => TokenKind::Reserved(Keyword::FlowToStock),
             TimeFunction::StockToFlow => TokenKind::Reserved(Keyword::StockToFlow),
             TimeFunction::PeriodIndicator => TokenKind::Reserved(Keyword::PeriodIndicator),
-        }
-    }
-}
-
-impl Choice for FillSpan {
-    ghost choice = { fill_span_kind };
-
-    fn kind(&self) -> TokenKind {
-        match self {
-            FillSpan::All => TokenKind::Reserved(Keyword::All),
-            FillSpan::Single => TokenKind::Reserved(Keyword::Single),
-        }
-    }
-}
-
-impl Choice for Sort {
-    ghost choice = { sort_kind };
-
-    fn kind(&self) -> TokenKind {
-        match self {
-            Sort::Dataset => TokenKind::Reserved(Keyword::Dataset),
-            Sort::Integer => TokenKind::Reserved(Keyword::Integer),
-            Sort::Number => TokenKind::Reserved(Keyword::Number),
-            Sort::Text => TokenKind::Reserved(Keyword::String),
-            Sort::Truth => TokenKind::Reserved(Keyword::Boolean),
         }
     }
 }

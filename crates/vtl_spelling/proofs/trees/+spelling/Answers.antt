@@ -9,7 +9,8 @@ use Rattle.vtl_tokens.specs.declared.keyword.Keyword.TheVariants as words
 use Rattle.vtl_syntax.specs.declared.expr.Expr.{Expr}
 use Rattle.vtl_syntax.specs.declared.expr.Item.{Item}
 use Rattle.vtl_spelling.specs.Kinds.{Kinds, ◌&◌, one, key, comma, commas, open_paren, close_paren, optional, name}
-use Rattle.vtl_spelling.specs.Words.{exists_rows_kind}
+use Rattle.vtl_grammar.specs.Words.{exists_rows}
+use Rattle.vtl_spelling.specs.Words.{written}
 use Rattle.vtl_spelling.specs.Parts.{comp_spelled, rename_spelled, sub_item_spelled}
 use Rattle.vtl_spelling.specs.Trees.{spelled, clause_spelled, groups_spelled, item_spelled, operand_spelled, range_spelled}
 use Rattle.vtl_spelling.proofs.ClausesTold.{spelling}
@@ -184,7 +185,7 @@ two_operands-returns-in_ok-next_operand-in-ExistsIn t c =
     let z = c.rows.new.out.items in
     let x0 : Kinds = key words.ExistsIn & open_paren & spelled c.get-in-ExistsIn.result.now in
     let x1 : Kinds = comma & spelled c.get-in-ExistsIn-2.result.now in
-    let y : Kinds = optional (λ w. comma & one (exists_rows_kind w)) c.in-ExistsIn.rows & close_paren in
+    let y : Kinds = optional (λ w. comma & one (written exists_rows w)) c.in-ExistsIn.rows & close_paren in
     let is : spelled c.args.tree.now ≡ x0 ++ (x1 ++ y) = rw (c.get-in-ExistsIn.ensures, c.get-in-ExistsIn-2.ensures, c.in-ExistsIn.is) (folded-ExistsIn spelling c.in-ExistsIn.left c.in-ExistsIn.right c.in-ExistsIn.rows c.in-ExistsIn.place) in
     last c.rows.result o z (spelled c.args.tree.now) (x0 ++ (x1 ++ y)) is (behind c.rows.result o c.worded_call.new.out.items z x0 (x1 ++ y) (c.in_ok-worded_call-in-ExistsIn.ensures {u = tt}) (behind c.rows.result c.worded_call.new.out.items c.next_operand.new.out.items z x1 y (c.in_ok-next_operand-in-ExistsIn.ensures {u = tt}) c.rows.ensures))
 

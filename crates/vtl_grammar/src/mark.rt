@@ -1,7 +1,7 @@
 // Reserved words and signs in one.
 ghost use Rattle.std.specs.Prelude.{◌≡◌, option_map};
 ghost use Rattle.vtl_grammar.specs.Marks.{mark_in};
-ghost use Rattle.vtl_cursor.specs.Views.{mark_of};
+ghost use Rattle.vtl_grammar.specs.Words.{mark_of};
 
 use vtl_tokens::{Keyword, Sign, TokenKind};
 
