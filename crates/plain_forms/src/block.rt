@@ -2,11 +2,11 @@
 ghost use Rattle.std.specs.Prelude.{◌≡◌, map, IfOk, Some, None, Err, chars};
 ghost use Rattle.plain_forms.specs.Lines.{shown};
 ghost use Rattle.plain_forms.specs.Feeds.{input_of, block_of};
-ghost use Rattle.plain_forms.specs.Revisions.{name_of, raw_row_of, revision_of};
+ghost use Rattle.plain_forms.specs.Revisions.{name_of, raw_row_of, part_of, revision_of};
 
 use crate::row::{Row, keys_differ, read_rows};
 use crate::stop::PlainStop;
-use point_sets::{Action, RawField, RawRow, Revision};
+use point_sets::{Action, Part, RawField, RawRow, Revision};
 use sqlite_items::Items;
 use std::alloc::{AllocError, Global};
 use vtl_values::Word;
@@ -32,7 +32,7 @@ impl Input {
     }
 }
 
-/// One revision: the rows that it puts into an input. Their keys differ.
+/// One revision of one part: the rows that it puts into an input. Their keys differ.
 #[derive(Debug, Drop)]
 pub struct Block {
     pub input: Input,
@@ -85,7 +85,17 @@ pub fn revisions(alloc: Global, blocks: &[Block]) -> Result<Vec<Revision>, Alloc
 fn revision(alloc: Global, block: &Block) -> Result<Revision, AllocError>
     ensures { IfOk result (λ revision. revision ≡ revision_of block.now) }
 {
+    let mut parts = Vec::new(alloc);
+    parts.push(part(alloc, block)?)?;
     Ok(Revision {
+        parts: Items::from_vec(parts),
+    })
+}
+
+fn part(alloc: Global, block: &Block) -> Result<Part, AllocError>
+    ensures { IfOk result (λ part. part ≡ part_of block.now) }
+{
+    Ok(Part {
         set: Word::from_str(alloc, block.input.name())?,
         rows: raw_rows(alloc, block.rows.as_slice())?,
     })

@@ -23,4 +23,4 @@ pub use key::Key;
 pub use notes::Notes;
 pub use point::Point;
 pub use point_set::PointSet;
-pub use revision::{Action, RawField, RawRow, Revision};
+pub use revision::{Action, Part, RawField, RawRow, Revision};

@@ -39,9 +39,15 @@ pub struct RawRow {
     pub fields: Items<RawField>,
 }
 
-/// What a source sends: rows for the data set of that name.
+/// Rows for the data set of that name.
 #[derive(Debug, Drop)]
-pub struct Revision {
+pub struct Part {
     pub set: Word,
     pub rows: Items<RawRow>,
+}
+
+/// What a source sends at once: parts, in their order, which are judged together.
+#[derive(Debug, Drop)]
+pub struct Revision {
+    pub parts: Items<Part>,
 }

@@ -1,5 +1,5 @@
 -- What is granted to a row, and the tally after it.
-use Rattle.std.proofs.Common.{◌≡◌, ◌+◌, ◌-◌, ◌<◌, ◌≤◌, List, [], ◌∷◌, length, length-append, Option, Some, None, Bool, true, false, cond, sym, ◌∙◌, ap, refl, subst, arith, nat_le, Result, Ok, Err, IsErrAnd}
+use Rattle.std.proofs.Common.{◌≡◌, ◌+◌, ◌-◌, ◌<◌, ◌≤◌, List, [], ◌∷◌, length, Option, Some, None, Bool, true, false, cond, sym, ◌∙◌, ap, refl, subst, arith, nat_le, Result, Ok, Err, IsErrAnd}
 use Rattle.std.specs.Prelude.{is_some}
 use Rattle.std.specs.Result.{IsOkAnd, is_err, result_unwrap_or}
 use Rattle.std.specs.List.{list_any}
@@ -104,15 +104,15 @@ module _ (before : DataSet) (t : Tally) (p : Progress) (h : IsTally before t p) 
         subst (λ (r : Result Progress Cause). IsOkAnd r (IsTally before u)) (sym (remove-some p key unlisted (there-now ∙ some)))
         (tally-grown before t u p h key (values_of old) None (remove p.set key) absent added (sym is) noted (get-remove key_cmp-IsTotalOrder p.set key) now within)
 
--- ---- a row has one key
+-- ---- a row is counted once
 
 module _ (p q : Progress) where
-  by_tests : (listed fits : Bool) (why : Cause) (next : Progress) → length next.keys ≡ length p.keys + 1 → cond listed (let r : Result Progress Cause = Err KeyTwice in r) (cond fits (Ok next) (Err why)) ≡ Ok q → length q.keys ≡ length p.keys + 1
+  by_tests : (listed fits : Bool) (why : Cause) (next : Progress) → next.rows ≡ p.rows + 1 → cond listed (let r : Result Progress Cause = Err KeyTwice in r) (cond fits (Ok next) (Err why)) ≡ Ok q → q.rows ≡ p.rows + 1
   by_tests true fits why next h e = let bad : true ≡ false = ap is_err e in cc
-  by_tests false true why next h e = ap (λ (r : Result Progress Cause). length (result_unwrap_or r next).keys) (sym e) ∙ h
+  by_tests false true why next h e = ap (λ (r : Result Progress Cause). (result_unwrap_or r next).rows) (sym e) ∙ h
   by_tests false false why next h e = let bad : true ≡ false = ap is_err e in cc
 
-  -- a row adds its key
-  pub keys-granted : (ask : Ask) → granted p ask ≡ Ok q → length q.keys ≡ length p.keys + 1
-  keys-granted (Put key rest) e = by_tests (is_listed key_cmp p.keys key) (nat_le (len (insert p.set key rest)) POINT_LIMIT) SetFull (grown p key (insert p.set key rest)) (length-append p.keys (key ∷ [])) e
-  keys-granted (Remove key) e = by_tests (is_listed key_cmp p.keys key) (is_some (get p.set key)) NoSuchPoint (grown p key (remove p.set key)) (length-append p.keys (key ∷ [])) e
+  -- a row that is granted is one row more
+  pub rows-granted : (ask : Ask) → granted p ask ≡ Ok q → q.rows ≡ p.rows + 1
+  rows-granted (Put key rest) e = by_tests (is_listed key_cmp p.keys key) (nat_le (len (insert p.set key rest)) POINT_LIMIT) SetFull (grown p key (insert p.set key rest)) refl e
+  rows-granted (Remove key) e = by_tests (is_listed key_cmp p.keys key) (is_some (get p.set key)) NoSuchPoint (grown p key (remove p.set key)) refl e

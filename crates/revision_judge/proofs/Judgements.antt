@@ -1,34 +1,33 @@
 -- Judgements, and the data sets that they leave.
-use Rattle.std.proofs.Common.{◌≡◌, ◌≢◌, ℕ, zero, suc, ◌<◌, ◌≤◌, List, [], ◌∷◌, length, get_or, Option, Some, None, Bool, true, false, Result, Ok, Err, refl, sym, subst, ap, ◌∙◌, arith, unwrap_or, nat_eq}
-use Rattle.std.specs.Prelude.{slice_get}
+use Rattle.std.proofs.Common.{◌≡◌, ◌≢◌, ℕ, zero, suc, ◌+◌, ◌<◌, ◌≤◌, List, [], ◌∷◌, length, get_or, map, Option, Some, None, Bool, true, false, Result, Ok, Err, refl, sym, subst, ap, ◌∙◌, arith, unwrap_or, nat_eq}
+use Rattle.std.specs.Prelude.{slice_get, option_map}
 use Rattle.std.specs.Option.{IfSome}
-use Rattle.std.specs.Result.{IsOkAnd}
-use Rattle.std.specs.List.{fold}
+use Rattle.std.specs.Result.{is_err, result_unwrap_or}
+use Rattle.std.specs.List.{All, fold}
 use Rattle.std.specs.Map.{keys_of}
 use Rattle.std.specs.Cmp.Lexicographic.{pointwise}
 use Rattle.std.specs.FinMap.{empty, len, get-empty, len-empty}
-use Rattle.std.proofs.lemmas.List.{length-map}
+use Rattle.std.proofs.lemmas.List.{length-map, length-set, map-set}
+use Rattle.std.proofs.lemmas.List.Elements.{All-head, All-tail}
 use Rattle.std.proofs.lemmas.List.Quantifiers.{position-Some}
 use Rattle.std.proofs.lemmas.Slice.Zip.{AllZip-long}
-use Rattle.std.proofs.lemmas.Option.{slice_get_read}
+use Rattle.std.proofs.lemmas.Option.{slice_get_read, slice_get-map}
 use Rattle.vtl_values.specs.declared.structure.Component.{Component}
 use Rattle.vtl_values.specs.declared.value.Value.{Value}
 use Rattle.vtl_values.specs.Order.{key_cmp}
 use Rattle.vtl_values.specs.Structures.{NamedStructures, number_of}
-use Rattle.data_model.specs.Deltas.{Leads, apply}
 use Rattle.data_model.specs.declared.TheConstants.{POINT_LIMIT}
 use Rattle.point_sets.specs.DataSets.{DataSet}
-use Rattle.point_sets.specs.Changes.{Changes}
+use Rattle.point_sets.specs.declared.revision.Part.{Part}
 use Rattle.point_sets.specs.declared.revision.RawRow.{RawRow}
 use Rattle.point_sets.specs.declared.revision.Revision.{Revision}
 use Rattle.structured_sets.specs.Fitting.{IsSetOf, IsBoundedSetOf, IsPointOf}
 use Rattle.revision_judge.specs.declared.ruling.Refusal.{Refusal}
-use Rattle.revision_judge.specs.declared.ruling.Ruling.TheVariants as ruling
-use Rattle.revision_judge.specs.declared.tally.Tally.{Tally}
-use Rattle.revision_judge.specs.Rows.{Progress, rows_judged}
-use Rattle.revision_judge.specs.Tallies.{IsTally}
-use Rattle.revision_judge.specs.Judging.{Judgement, Fit, Refused, AreInputs, StandsForJudgement, components_of, input, inputs_with, inputs_then, inputs_after, no_points, settled, judgement_on, judged_at, judged}
-use Rattle.revision_judge.proofs.Kept.{rows-keep}
+use Rattle.revision_judge.specs.Steps.{◌>>=◌}
+use Rattle.revision_judge.specs.Rows.{Progress, at_first, in_new_part, rows_judged}
+use Rattle.revision_judge.specs.Judging.{Judgement, Fit, Refused, Standing, AreInputs, before_parts, progress_at, and_part, part_judged_at, part_judged, parts_judged, sets_at, judgement_of, components_of, input, inputs_with, inputs_then, inputs_after, no_points, settled, judged}
+use Rattle.revision_judge.specs.Alone.{NamedByNone, alone, judged_alone}
+use Rattle.revision_judge.proofs.Kept.{Keeps, rows-keep}
 
 -- ---- the data set with a number
 
@@ -64,64 +63,163 @@ others-stay (x ∷ xs) zero next (suc i) apart = refl
 others-stay (x ∷ xs) (suc n) next zero apart = refl
 others-stay (x ∷ xs) (suc n) next (suc i) apart = others-stay xs n next i (λ e. apart (ap suc e))
 
--- ---- what stands for a judgement
+-- ---- where the data sets stand
 
-fit-on : (inputs : List DataSet) (set : DataSet) (t : Tally) (n : ℕ) (delta : Changes) (r : Result Progress Refusal) → input inputs n ≡ set → IsOkAnd r (IsTally set t) → ((p : Progress) → IsTally set t p → Leads delta set p.set) → StandsForJudgement inputs (ruling.Fit n delta) (judgement_on n r)
-fit-on inputs set t n delta (Ok p) is h leads = record { same_set = refl; leads = subst (λ (m : DataSet). Leads delta m p.set) (sym is) (leads p h) }
-fit-on inputs set t n delta (Err refusal) is h leads = absurd h
+-- a step and the next one went well
+step-parts : {A B E : Type 0} (r : Result A E) (next : A → B) (y : B) → (r >>= (λ x. let q : Result B E = Ok (next x) in q)) ≡ Ok y → (x : A) × (r ≡ Ok x) × (next x ≡ y)
+step-parts (Ok x) next y e = (x, refl, ap (λ r. result_unwrap_or r y) e)
+step-parts {A} {B} {E} (Err why) next y e = absurd (never e)
+  where
+    never : (let r : Result B E = Err why in r) ≡ Ok y → ⊥
+    never e = let bad : true ≡ false = ap is_err e in cc
 
-pub fit-stands : (components : List Component) (rows : List RawRow) (inputs : List DataSet) (set : DataSet) (t : Tally) (n : ℕ) (delta : Changes) → input inputs n ≡ set → IsOkAnd (rows_judged components set rows) (IsTally set t) → ((p : Progress) → IsTally set t p → Leads delta set p.set) → StandsForJudgement inputs (ruling.Fit n delta) (judgement_on n (rows_judged components (input inputs n) rows))
-fit-stands components rows inputs set t n delta is h leads = subst (λ (m : DataSet). StandsForJudgement inputs (ruling.Fit n delta) (judgement_on n (rows_judged components m rows))) (sym is) (fit-on inputs set t n delta (rows_judged components set rows) is h leads)
+set-or : (found : Option Progress) → (unwrap_or found (at_first empty)).set ≡ unwrap_or (option_map (λ p. p.set) found) empty
+set-or None = refl
+set-or (Some p) = refl
 
-pub refused-stands : (components : List Component) (rows : List RawRow) (inputs : List DataSet) (set : DataSet) (n : ℕ) (refusal : Refusal) → input inputs n ≡ set → rows_judged components set rows ≡ Err refusal → StandsForJudgement inputs (ruling.Refused refusal) (judgement_on n (rows_judged components (input inputs n) rows))
-refused-stands components rows inputs set n refusal is h =
-    subst (λ (r : Result Progress Refusal). StandsForJudgement inputs (ruling.Refused refusal) (judgement_on n r)) (sym (ap (λ (m : DataSet). rows_judged components m rows) is ∙ h)) refl
+-- the data set with a number
+pub progress-set : (s : Standing) (n : ℕ) → (progress_at s n).set ≡ input (sets_at s) n
+progress-set s n = set-or (slice_get s.sets n) ∙ ap (λ (found : Option DataSet). unwrap_or found empty) (sym (slice_get-map (λ (p : Progress). p.set) s.sets n))
+
+first-sets : (inputs : List DataSet) → map (λ (p : Progress). p.set) (map at_first inputs) ≡ inputs
+first-sets [] = refl
+first-sets (x ∷ xs) = ap (λ (ys : List DataSet). x ∷ ys) (first-sets xs)
+
+pub part-sets : (s : Standing) (n : ℕ) (p : Progress) → sets_at (and_part s n p) ≡ inputs_with (sets_at s) n p.set
+part-sets s n p = map-set (λ (q : Progress). q.set) s.sets n p
+
+-- one part went well
+pub record WentOn (structures : NamedStructures) (s : Standing) (part : Part) (t : Standing) : Type 0 where
+  pub number : ℕ
+  pub named : number_of structures part.set ≡ Some number
+  pub progress : Progress
+  pub rows : rows_judged (components_of structures number) (s.parts + 1) (in_new_part (progress_at s number)) part.rows ≡ Ok progress
+  pub leaves : and_part s number progress ≡ t
+
+went-on-at : (structures : NamedStructures) (s : Standing) (part : Part) (t : Standing) (found : Option ℕ) → number_of structures part.set ≡ found → part_judged_at structures s part.rows found ≡ Ok t → WentOn structures s part t
+went-on-at structures s part t None is e = let bad : true ≡ false = ap is_err e in cc
+went-on-at structures s part t (Some n) is e =
+    let parts = step-parts (rows_judged (components_of structures n) (s.parts + 1) (in_new_part (progress_at s n)) part.rows) (and_part s n) t e in
+    record { number = n; named = is; progress = parts.0; rows = parts.1; leaves = parts.2 }
+
+pub went-on : (structures : NamedStructures) (s : Standing) (part : Part) (t : Standing) → part_judged structures s part ≡ Ok t → WentOn structures s part t
+went-on structures s part t e = went-on-at structures s part t (number_of structures part.set) refl e
+
+-- ---- all parts
+
+module _ (structures : NamedStructures) where
+  abbrev pub each_part : Result Standing Refusal → Part → Result Standing Refusal
+  each_part so_far part = so_far >>= (λ s. part_judged structures s part)
+
+  stuck : (parts : List Part) (refusal : Refusal) (t : Standing) → fold each_part (Err refusal) parts ≡ Ok t → ⊥
+  stuck [] refusal t e = let bad : true ≡ false = ap is_err e in cc
+  stuck (part ∷ parts) refusal t e = stuck parts refusal t e
+
+  -- what each part keeps, all keep
+  module _ (Q : Part → Type 0) (P : Standing → Type 0) (one : (s t : Standing) (part : Part) → Q part → WentOn structures s part t → P s → P t) where
+    step-keeps : (parts : List Part) (s : Standing) (part : Part) (t : Standing) → Q part → P s → ((u : Standing) → P u → fold each_part (Ok u) parts ≡ Ok t → P t) → (r : Result Standing Refusal) → part_judged structures s part ≡ r → fold each_part r parts ≡ Ok t → P t
+    step-keeps parts s part t q p later (Ok u) is e = later u (one s u part q (went-on structures s part u is) p) e
+    step-keeps parts s part t q p later (Err refusal) is e = absurd (stuck parts refusal t e)
+
+    pub parts-keep : (parts : List Part) (s t : Standing) → All Q parts → P s → fold each_part (Ok s) parts ≡ Ok t → P t
+    parts-keep [] s t q p e = subst P (ap (λ (r : Result Standing Refusal). result_unwrap_or r s) e) p
+    parts-keep (part ∷ parts) s t q p e = step-keeps parts s part t (All-head Q part parts q) p (λ u k f. parts-keep parts u t (All-tail Q part parts q) k f) (part_judged structures s part) refl e
+
+all-parts : (parts : List Part) → All (λ part. Unit {0}) parts
+all-parts parts k d l = tt
 
 -- ---- what a judgement leaves
 
 is_fit : Judgement → Bool
-is_fit (Fit n next) = true
+is_fit (Fit nexts) = true
 is_fit (Refused refusal) = false
 
-number_in : Judgement → ℕ
-number_in (Fit n next) = n
-number_in (Refused refusal) = 0
+sets_in : Judgement → List DataSet
+sets_in (Fit nexts) = nexts
+sets_in (Refused refusal) = []
 
-set_in : Judgement → DataSet
-set_in (Fit n next) = next
-set_in (Refused refusal) = empty
+-- data sets that a judgement leaves are where the parts have brought them
+fit-parts : (r : Result Standing Refusal) (nexts : List DataSet) → judgement_of r ≡ Fit nexts → (s : Standing) × (r ≡ Ok s) × (sets_at s ≡ nexts)
+unfolding is_fit sets_in
+fit-parts (Ok s) nexts e = (s, refl, ap sets_in e)
+fit-parts (Err refusal) nexts e = let bad : false ≡ true = ap is_fit e in cc
 
--- a data set that a judgement leaves is that after the rows
-fit-parts : (m n : ℕ) (next : DataSet) (r : Result Progress Refusal) → judgement_on m r ≡ Fit n next → (m ≡ n) × (IsOkAnd r (λ p. p.set ≡ next))
-unfolding is_fit number_in set_in
-fit-parts m n next (Ok p) e = (ap number_in e, ap set_in e)
-fit-parts m n next (Err refusal) e = let bad : false ≡ true = ap is_fit e in cc
+-- a part more leaves data sets of the structures
+part-keeps : (structures : NamedStructures) (s t : Standing) (part : Part) → WentOn structures s part t → AreInputs structures (sets_at s) → AreInputs structures (sets_at t)
+part-keeps structures s t part w h =
+    let n = w.number in
+    let within = number-within structures (sets_at s) part.set n h w.named in
+    let before = input-at structures (sets_at s) n h within in
+    let after = rows-keep (components_of structures n) (s.parts + 1) part.rows (in_new_part (progress_at s n)) w.progress (subst (λ (m : DataSet). Keeps (components_of structures n) m) (sym (progress-set s n)) before) w.rows in
+    subst (AreInputs structures) (sym (part-sets s n w.progress) ∙ ap sets_at w.leaves) (with-input structures (sets_at s) n w.progress.set h within after.0 after.1)
 
-kept-on : (components : List Component) (next : DataSet) (r : Result Progress Refusal) → IsOkAnd r (λ p. p.set ≡ next) → IsOkAnd r (λ p. IsSetOf components p.set × (len p.set ≤ POINT_LIMIT)) → IsSetOf components next × (len next ≤ POINT_LIMIT)
-kept-on components next (Ok p) is kept = subst (λ (m : DataSet). IsSetOf components m × (len m ≤ POINT_LIMIT)) is kept
-kept-on components next (Err refusal) is kept = absurd is
+pub accepted-keeps : (structures : NamedStructures) (inputs : List DataSet) (revision : Revision) (nexts : List DataSet) → AreInputs structures inputs → judged structures inputs revision ≡ Fit nexts → AreInputs structures nexts
+accepted-keeps structures inputs revision nexts h e =
+    let fit = fit-parts (parts_judged structures inputs revision.parts) nexts e in
+    subst (AreInputs structures) fit.2
+    (parts-keep structures (λ part. Unit {0}) (λ s. AreInputs structures (sets_at s)) (λ s t part q w k. part-keeps structures s t part w k) revision.parts (before_parts inputs) fit.0 (all-parts revision.parts) (subst (AreInputs structures) (sym (first-sets inputs)) h) fit.1)
 
-fit-keeps : (structures : NamedStructures) (inputs : List DataSet) (rows : List RawRow) (found : Option ℕ) (n : ℕ) (next : DataSet) → AreInputs structures inputs → ((m : ℕ) → found ≡ Some m → m < length inputs) → judged_at structures inputs rows found ≡ Fit n next → AreInputs structures (inputs_with inputs n next)
-unfolding is_fit
-fit-keeps structures inputs rows None n next h within e = let bad : false ≡ true = ap is_fit e in cc
-fit-keeps structures inputs rows (Some m) n next h within e =
-    let r = rows_judged (components_of structures m) (input inputs m) rows in
-    let parts = fit-parts m n next r e in
-    let before = input-at structures inputs m h (within m refl) in
-    let after = kept-on (components_of structures m) next r parts.1 (rows-keep (components_of structures m) rows (input inputs m) (λ p. p.set ≡ next) before parts.1) in
-    subst (λ k. AreInputs structures (inputs_with inputs k next)) parts.0 (with-input structures inputs m next h (within m refl) after.0 after.1)
+-- as many data sets as before
+part-long : (structures : NamedStructures) (s t : Standing) (part : Part) (m : ℕ) → WentOn structures s part t → length s.sets ≡ m → length t.sets ≡ m
+part-long structures s t part m w h = ap (λ (u : Standing). length u.sets) (sym w.leaves) ∙ length-set s.sets w.number w.progress ∙ h
 
-pub accepted-keeps : (structures : NamedStructures) (inputs : List DataSet) (revision : Revision) (n : ℕ) (next : DataSet) → AreInputs structures inputs → judged structures inputs revision ≡ Fit n next → AreInputs structures (inputs_with inputs n next)
-accepted-keeps structures inputs revision n next h e = fit-keeps structures inputs revision.rows (number_of structures revision.set) n next h (λ m is. number-within structures inputs revision.set m h is) e
+pub accepted-long : (structures : NamedStructures) (inputs : List DataSet) (revision : Revision) (nexts : List DataSet) → judged structures inputs revision ≡ Fit nexts → length nexts ≡ length inputs
+accepted-long structures inputs revision nexts e =
+    let fit = fit-parts (parts_judged structures inputs revision.parts) nexts e in
+    ap length (sym fit.2) ∙ length-map fit.0.sets (λ (p : Progress). p.set)
+    ∙ parts-keep structures (λ part. Unit {0}) (λ s. length s.sets ≡ length inputs) (λ s t part q w k. part-long structures s t part (length inputs) w k) revision.parts (before_parts inputs) fit.0 (all-parts revision.parts) (length-map inputs at_first) fit.1
+
+-- what no part names stays
+part-others : (structures : NamedStructures) (s t : Standing) (part : Part) (n : ℕ) (found : Option DataSet) → number_of structures part.set ≢ Some n → WentOn structures s part t → slice_get (sets_at s) n ≡ found → slice_get (sets_at t) n ≡ found
+part-others structures s t part n found apart w h =
+    let same : n ≢ w.number = λ e. apart (w.named ∙ ap (λ (k : ℕ). let o : Option ℕ = Some k in o) (sym e)) in
+    ap (λ (u : Standing). slice_get (sets_at u) n) (sym w.leaves) ∙ ap (λ (xs : List DataSet). slice_get xs n) (part-sets s w.number w.progress) ∙ others-stay (sets_at s) w.number w.progress.set n same ∙ h
+
+pub accepted-others : (structures : NamedStructures) (inputs : List DataSet) (revision : Revision) (nexts : List DataSet) (n : ℕ) → judged structures inputs revision ≡ Fit nexts → NamedByNone structures n revision.parts → slice_get nexts n ≡ slice_get inputs n
+accepted-others structures inputs revision nexts n e none =
+    let fit = fit-parts (parts_judged structures inputs revision.parts) nexts e in
+    ap (λ (xs : List DataSet). slice_get xs n) (sym fit.2)
+    ∙ parts-keep structures (λ part. number_of structures part.set ≢ Some n) (λ s. slice_get (sets_at s) n ≡ slice_get inputs n) (λ s t part q w k. part-others structures s t part n (slice_get inputs n) q w k) revision.parts (before_parts inputs) fit.0 none (ap (λ (xs : List DataSet). slice_get xs n) (first-sets inputs)) fit.1
+
+-- ---- short revisions
+
+pub no-parts : (structures : NamedStructures) (inputs : List DataSet) → judged structures inputs (record { parts = [] }) ≡ Fit inputs
+no-parts structures inputs = ap (λ (xs : List DataSet). Fit xs) (first-sets inputs)
+
+first-or : (inputs : List DataSet) (n : ℕ) → n < length inputs → unwrap_or (slice_get (map at_first inputs) n) (at_first empty) ≡ at_first (input inputs n)
+first-or [] n l = absurd (omega arith)
+first-or (x ∷ xs) zero l = refl
+first-or (x ∷ xs) (suc n) l = first-or xs n (omega (arith, l))
+
+-- a data set is at first as it was before the revision
+pub first-progress : (inputs : List DataSet) (n : ℕ) → n < length inputs → progress_at (before_parts inputs) n ≡ at_first (input inputs n)
+first-progress inputs n l = first-or inputs n l
+
+alone-so : (inputs : List DataSet) (n : ℕ) (r : Result Progress Refusal) → judgement_of (r >>= (λ p. Ok (and_part (before_parts inputs) n p))) ≡ alone inputs n r
+alone-so inputs n (Ok p) = ap (λ (xs : List DataSet). Fit xs) (part-sets (before_parts inputs) n p ∙ ap (λ (xs : List DataSet). inputs_with xs n p.set) (first-sets inputs))
+alone-so inputs n (Err refusal) = refl
+
+pub one-part : (structures : NamedStructures) (inputs : List DataSet) (part : Part) (n : ℕ) → number_of structures part.set ≡ Some n → n < length inputs → judged structures inputs (record { parts = part ∷ [] }) ≡ judged_alone structures inputs part.rows n
+one-part structures inputs part n is within =
+    ap (λ found. judgement_of (part_judged_at structures (before_parts inputs) part.rows found)) is
+    ∙ alone-so inputs n (rows_judged (components_of structures n) 1 (in_new_part (progress_at (before_parts inputs) n)) part.rows)
+    ∙ ap (λ (p : Progress). alone inputs n (rows_judged (components_of structures n) 1 (in_new_part p) part.rows)) (first-progress inputs n within)
 
 -- ---- the data sets after revisions
 
-settled-keeps : (structures : NamedStructures) (inputs : List DataSet) (judgement : Judgement) → AreInputs structures inputs → ((n : ℕ) (next : DataSet) → judgement ≡ Fit n next → AreInputs structures (inputs_with inputs n next)) → AreInputs structures (settled inputs judgement)
-settled-keeps structures inputs (Fit n next) h fits = fits n next refl
+settled-keeps : (structures : NamedStructures) (inputs : List DataSet) (judgement : Judgement) → AreInputs structures inputs → ((nexts : List DataSet) → judgement ≡ Fit nexts → AreInputs structures nexts) → AreInputs structures (settled inputs judgement)
+settled-keeps structures inputs (Fit nexts) h fits = fits nexts refl
 settled-keeps structures inputs (Refused refusal) h fits = h
 
 pub then-fit : (structures : NamedStructures) (inputs : List DataSet) (revision : Revision) → AreInputs structures inputs → AreInputs structures (inputs_then structures inputs revision)
-then-fit structures inputs revision h = settled-keeps structures inputs (judged structures inputs revision) h (λ n next e. accepted-keeps structures inputs revision n next h e)
+then-fit structures inputs revision h = settled-keeps structures inputs (judged structures inputs revision) h (λ nexts e. accepted-keeps structures inputs revision nexts h e)
+
+settled-long : (inputs : List DataSet) (judgement : Judgement) → ((nexts : List DataSet) → judgement ≡ Fit nexts → length nexts ≡ length inputs) → length (settled inputs judgement) ≡ length inputs
+settled-long inputs (Fit nexts) long = long nexts refl
+settled-long inputs (Refused refusal) long = refl
+
+pub then-long : (structures : NamedStructures) (inputs : List DataSet) (revision : Revision) → length (inputs_then structures inputs revision) ≡ length inputs
+then-long structures inputs revision = settled-long inputs (judged structures inputs revision) (λ nexts e. accepted-long structures inputs revision nexts e)
 
 revisions-keep : (structures : NamedStructures) (revisions : List Revision) (inputs : List DataSet) → AreInputs structures inputs → AreInputs structures (fold (inputs_then structures) inputs revisions)
 revisions-keep structures [] inputs h = h
@@ -133,38 +231,6 @@ no_points-fit (s ∷ ss) = (record { fits = λ key. subst (λ (found : Option (L
 
 pub inputs_after-fit : (structures : NamedStructures) (revisions : List Revision) → AreInputs structures (inputs_after structures revisions)
 inputs_after-fit structures revisions = revisions-keep structures revisions (no_points structures) (no_points-fit structures)
-
--- ---- what an answer tells of the data sets
-
-fit-told : (inputs : List DataSet) (n : ℕ) (delta : Changes) (judgement : Judgement) → StandsForJudgement inputs (ruling.Fit n delta) judgement → (next : DataSet) × (judgement ≡ Fit n next) × (apply delta (input inputs n) ≡ next)
-fit-told inputs n delta (Fit m next) h = (next, ap (λ k. Fit k next) (sym h.same_set), ap (λ k. apply delta (input inputs k)) h.same_set ∙ h.leads.ends)
-fit-told inputs n delta (Refused refusal) h = absurd h
-
-pub told-fit : (structures : NamedStructures) (inputs : List DataSet) (revision : Revision) (n : ℕ) (delta : Changes) → StandsForJudgement inputs (ruling.Fit n delta) (judged structures inputs revision) → inputs_then structures inputs revision ≡ inputs_with inputs n (apply delta (input inputs n))
-told-fit structures inputs revision n delta h =
-    let parts = fit-told inputs n delta (judged structures inputs revision) h in
-    ap (settled inputs) parts.1 ∙ ap (inputs_with inputs n) (sym parts.2)
-
-refusal-told : (inputs : List DataSet) (refusal : Refusal) (judgement : Judgement) → StandsForJudgement inputs (ruling.Refused refusal) judgement → settled inputs judgement ≡ inputs
-refusal-told inputs refusal (Fit m next) h = absurd h
-refusal-told inputs refusal (Refused told) h = refl
-
-pub told-refused : (structures : NamedStructures) (inputs : List DataSet) (revision : Revision) (refusal : Refusal) → StandsForJudgement inputs (ruling.Refused refusal) (judged structures inputs revision) → inputs_then structures inputs revision ≡ inputs
-told-refused structures inputs revision refusal h = refusal-told inputs refusal (judged structures inputs revision) h
-
-found-number : (structures : NamedStructures) (inputs : List DataSet) (rows : List RawRow) (found : Option ℕ) (n : ℕ) (next : DataSet) → judged_at structures inputs rows found ≡ Fit n next → found ≡ Some n
-unfolding is_fit
-found-number structures inputs rows None n next e = let bad : false ≡ true = ap is_fit e in cc
-found-number structures inputs rows (Some m) n next e = ap (λ (k : ℕ). let o : Option ℕ = Some k in o) (fit-parts m n next (rows_judged (components_of structures m) (input inputs m) rows) e).0
-
-pub told-number : (structures : NamedStructures) (inputs : List DataSet) (revision : Revision) (n : ℕ) (delta : Changes) → AreInputs structures inputs → StandsForJudgement inputs (ruling.Fit n delta) (judged structures inputs revision) → n < length inputs
-told-number structures inputs revision n delta h told =
-    let parts = fit-told inputs n delta (judged structures inputs revision) told in
-    number-within structures inputs revision.set n h (found-number structures inputs revision.rows (number_of structures revision.set) n parts.0 parts.1)
-
--- the data sets after an answer whose delta is put in place
-pub told-inputs : (structures : NamedStructures) (inputs : List DataSet) (revision : Revision) (n : ℕ) (delta : Changes) → AreInputs structures inputs → StandsForJudgement inputs (ruling.Fit n delta) (judged structures inputs revision) → AreInputs structures (inputs_with inputs n (apply delta (input inputs n)))
-told-inputs structures inputs revision n delta h told = subst (AreInputs structures) (told-fit structures inputs revision n delta told) (then-fit structures inputs revision h)
 
 -- a structure, and no points
 pub one-empty : (structures : NamedStructures) → length structures ≡ 1 → AreInputs structures (empty ∷ [])

@@ -2,7 +2,7 @@
 use Rattle.std.proofs.Common.{◌≡◌, ◌≢◌, ℕ, ◌-◌, ◌≤◌, List, [], ◌∷◌, Option, Bool, true, false, not, ◌&&◌, cond, Result, Ok, Err, refl, sym, subst, ap, ◌∙◌, arith, nat_le, inl, inr, nat_eq, T}
 use Rattle.std.specs.Prelude.{is_some}
 use Rattle.std.specs.Option.{IfSome}
-use Rattle.std.specs.Result.{IsOkAnd, is_err, result_map_both, result_unwrap_or}
+use Rattle.std.specs.Result.{is_err, result_map_both, result_unwrap_or}
 use Rattle.std.specs.List.{AllZip, filter, fold}
 use Rattle.std.specs.Ordering.{eq_by_cmp}
 use Rattle.std.specs.Cmp.Lexicographic.{pointwise}
@@ -36,7 +36,7 @@ use Rattle.revision_judge.specs.declared.cause.Cause.TheVariants.{NullIdentifier
 use Rattle.revision_judge.specs.declared.ruling.Refusal.{Refusal}
 use Rattle.revision_judge.specs.Fields.{Cell, text_in, is_null, fitting, value_in, values_in, key_cells, rest_cells}
 use Rattle.revision_judge.specs.Steps.{◌>>=◌}
-use Rattle.revision_judge.specs.Rows.{Ask, Put, Remove, Progress, at_first, asked, granted, grown, or_refused, refused_at, row_judged, rows_judged}
+use Rattle.revision_judge.specs.Rows.{Ask, Put, Remove, Progress, asked, granted, grown, or_refused, refused_at, row_judged, rows_judged}
 use Rattle.revision_judge.proofs.Cells.{chosen}
 
 -- a step and the next one went well
@@ -156,21 +156,19 @@ module _ (components : List Component) where
 
   -- ---- all rows
 
-  abbrev each : Result Progress Refusal → RawRow → Result Progress Refusal
-  each so_far row = so_far >>= (λ p. or_refused (refused_at components p row) (row_judged components p row))
+  abbrev each : ℕ → Result Progress Refusal → RawRow → Result Progress Refusal
+  each part so_far row = so_far >>= (λ p. or_refused (refused_at components part p row) (row_judged components p row))
 
   -- what has stopped stays so
-  stuck : (rows : List RawRow) (refusal : Refusal) (P : Progress → Type 0) → IsOkAnd (fold each (Err refusal) rows) P → ⊥
-  stuck [] refusal P h = h
-  stuck (row ∷ rows) refusal P h = stuck rows refusal P h
+  stuck : (part : ℕ) (rows : List RawRow) (refusal : Refusal) (q : Progress) → fold (each part) (Err refusal) rows ≡ Ok q → ⊥
+  stuck part [] refusal q e = let bad : true ≡ false = ap is_err e in cc
+  stuck part (row ∷ rows) refusal q e = stuck part rows refusal q e
 
-  step-keeps : (rows : List RawRow) (p : Progress) (row : RawRow) (P : Progress → Type 0) → Keeps components p.set → ((q : Progress) → Keeps components q.set → IsOkAnd (fold each (Ok q) rows) P → IsOkAnd (fold each (Ok q) rows) (λ t. Keeps components t.set)) → (r : Result Progress Cause) → row_judged components p row ≡ r → IsOkAnd (fold each (or_refused (refused_at components p row) r) rows) P → IsOkAnd (fold each (or_refused (refused_at components p row) r) rows) (λ t. Keeps components t.set)
-  step-keeps rows p row P h later (Ok q) is ok = later q (row-keeps p q row h is) ok
-  step-keeps rows p row P h later (Err cause) is ok = absurd (stuck rows (refused_at components p row cause) P ok)
+  step-keeps : (part : ℕ) (rows : List RawRow) (p : Progress) (row : RawRow) (q : Progress) → Keeps components p.set → ((t : Progress) → Keeps components t.set → fold (each part) (Ok t) rows ≡ Ok q → Keeps components q.set) → (r : Result Progress Cause) → row_judged components p row ≡ r → fold (each part) (or_refused (refused_at components part p row) r) rows ≡ Ok q → Keeps components q.set
+  step-keeps part rows p row q h later (Ok t) is e = later t (row-keeps p t row h is) e
+  step-keeps part rows p row q h later (Err cause) is e = absurd (stuck part rows (refused_at components part p row cause) q e)
 
-  fold-keeps : (rows : List RawRow) (p : Progress) (P : Progress → Type 0) → Keeps components p.set → IsOkAnd (fold each (Ok p) rows) P → IsOkAnd (fold each (Ok p) rows) (λ t. Keeps components t.set)
-  fold-keeps [] p P h ok = h
-  fold-keeps (row ∷ rows) p P h ok = step-keeps rows p row P h (λ q k o. fold-keeps rows q P k o) (row_judged components p row) refl ok
-
-pub rows-keep : (components : List Component) (rows : List RawRow) (set : DataSet) (P : Progress → Type 0) → Keeps components set → IsOkAnd (rows_judged components set rows) P → IsOkAnd (rows_judged components set rows) (λ p. Keeps components p.set)
-rows-keep components rows set P h ok = fold-keeps components rows (at_first set) P h ok
+  -- what the rows of a part leave
+  pub rows-keep : (part : ℕ) (rows : List RawRow) (p q : Progress) → Keeps components p.set → rows_judged components part p rows ≡ Ok q → Keeps components q.set
+  rows-keep part [] p q h e = subst (λ (t : Progress). Keeps components t.set) (ap (λ (r : Result Progress Refusal). result_unwrap_or r p) e) h
+  rows-keep part (row ∷ rows) p q h e = step-keeps part rows p row q h (λ t k s. rows-keep part rows t q k s) (row_judged components p row) refl e

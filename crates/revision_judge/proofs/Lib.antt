@@ -1,7 +1,11 @@
 pub mod Cells
+pub mod Finished
 pub mod Grants
 pub mod Judgements
 pub mod Kept
+pub mod RefusedParts
 pub mod RowLemmas
+pub mod ShareLemmas
+pub mod StandingLemmas
 pub mod StructureOrder
 pub mod TallyLemmas

@@ -1,7 +1,10 @@
+pub mod Alone
 pub mod Causes
 pub mod Fields
 pub mod Judging
 pub mod Rows
+pub mod Shares
+pub mod Standings
 pub mod Steps
 pub mod Stops
 pub mod Tallies

@@ -1,5 +1,5 @@
--- The rows of a revision, one after the other (docs/formats.md, "Judging").
-use Rattle.std.specs.Prelude.{◌+◌, List, [], ◌∷◌, ◌++◌, fold, length, nat_le, is_some, if◌then◌else◌, Result, Ok, Err}
+-- The rows of a part of a revision, one after the other (docs/formats.md, "Judging").
+use Rattle.std.specs.Prelude.{ℕ, ◌+◌, List, [], ◌∷◌, ◌++◌, fold, nat_le, is_some, if◌then◌else◌, Result, Ok, Err}
 use Rattle.std.specs.FinMap.{get, insert, remove, len}
 use Rattle.vtl_values.specs.declared.structure.Component.{Component}
 use Rattle.vtl_values.specs.declared.value.Value.{Value}
@@ -29,14 +29,23 @@ asked components row = for row.action
     for action.Put = values_in (key_cells components row.fields) >>= (λ key. values_in (rest_cells components row.fields) >>= (λ rest. Ok (Put key rest)))
     for action.Remove = values_in (key_cells components row.fields) >>= (λ key. Ok (Remove key))
 
--- the keys of the rows so far, and the data set after them
+-- the keys of a data set's rows so far, the data set after them, and how many of these rows are of the part
 pub record Progress : Type 0 where
   pub keys : List (List Value)
   pub set : DataSet
+  pub rows : ℕ
+
+-- no row yet
+abbrev pub at_first : DataSet → Progress
+at_first set = record { keys = []; set = set; rows = 0 }
+
+-- a further part begins
+abbrev pub in_new_part : Progress → Progress
+in_new_part p = record p { rows = 0 }
 
 -- one row more, with its key and the data set after it
 abbrev pub grown : Progress → List Value → DataSet → Progress
-grown p key set = record { keys = p.keys ++ key ∷ []; set = set }
+grown p key set = record { keys = p.keys ++ key ∷ []; set = set; rows = p.rows + 1 }
 
 -- a key may stand once; a put keeps the limit of points, and a remove needs a point
 abbrev pub granted : Progress → Ask → Result Progress Cause
@@ -54,18 +63,14 @@ granted p (Remove key) =
 abbrev pub row_judged : List Component → Progress → RawRow → Result Progress Cause
 row_judged components p row = asked components row >>= granted p
 
--- the refusal for the row that comes after these
-abbrev pub refused_at : List Component → Progress → RawRow → Cause → Refusal
-refused_at components p row cause = record { row = length p.keys + 1; key = key_fields components row.fields; cause = cause }
+-- the refusal, in the part with this number, for the row that comes after these
+abbrev pub refused_at : List Component → ℕ → Progress → RawRow → Cause → Refusal
+refused_at components part p row cause = record { part = part; row = p.rows + 1; key = key_fields components row.fields; cause = cause }
 
 abbrev pub or_refused : {A : Type 0} → (Cause → Refusal) → Result A Cause → Result A Refusal
 or_refused refusal (Ok value) = Ok value
 or_refused refusal (Err cause) = Err (refusal cause)
 
--- no row yet
-abbrev pub at_first : DataSet → Progress
-at_first set = record { keys = []; set = set }
-
--- the rows one after the other: what stands after them, or the refusal for the first that has a cause
-abbrev pub rows_judged : List Component → DataSet → List RawRow → Result Progress Refusal
-rows_judged components set rows = fold (λ so_far row. so_far >>= (λ p. or_refused (refused_at components p row) (row_judged components p row))) (Ok (at_first set)) rows
+-- the rows of a part one after the other: what stands after them, or the refusal for the first that has a cause
+abbrev pub rows_judged : List Component → ℕ → Progress → List RawRow → Result Progress Refusal
+rows_judged components part p rows = fold (λ so_far row. so_far >>= (λ q. or_refused (refused_at components part q row) (row_judged components q row))) (Ok p) rows

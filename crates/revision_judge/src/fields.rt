@@ -33,17 +33,11 @@ fn is_null(value: &Value) -> bool
     }
 }
 
-fn is_among(text: &Word, codes: &[Word]) -> bool
-    ensures { result ≡ list_any (same_text text.now) codes.now }
-{
-    codes.iter().any(|code| *text == *code)
-}
-
 fn is_in_codes(codes: &Codes, value: &Value) -> bool
     ensures { result ≡ is_in_codes codes.now value.now }
 {
     match (codes, value) {
-        (Codes::Listed(codes), Value::Text(text)) => is_among(text, codes.as_slice()),
+        (Codes::Listed(codes), Value::Text(text)) => codes.contains(text),
         _ => true,
     }
 }

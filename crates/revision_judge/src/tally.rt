@@ -1,10 +1,10 @@
-// What the rows of a revision come to.
+// What the rows of a data set come to.
 ghost use Rattle.std.specs.Prelude.{◌≡◌, ◌+◌, ◌-◌, ◌<◌, ◌≤◌, ◌^◌, Some, length, is_some, IfOk, IfErr, OnOk};
 ghost use Rattle.std.specs.FinMap as finmap;
 ghost use Rattle.data_model.specs.Deltas.{Leads};
 ghost use Rattle.point_sets.specs.DataSets.{DataSet, HasKey};
 ghost use Rattle.point_sets.specs.Changes.{values_of};
-ghost use Rattle.revision_judge.specs.Rows.{Progress, Put, Remove, at_first, granted, refused_at, row_judged, rows_judged};
+ghost use Rattle.revision_judge.specs.Rows.{Progress, Put, Remove, at_first, in_new_part, granted, refused_at, row_judged, rows_judged};
 ghost use Rattle.revision_judge.specs.Tallies.{IsTally, IsOfRows, AnswersRow, AnswersRows, AddsKey, StopsAtKey, with_point};
 
 use crate::cause::Cause;
@@ -91,22 +91,23 @@ impl Tally {
         }
     }
 
-    /// The rows from the first on, and the refusal for the first one that has a cause.
+    /// The rows of a further part, whose number is `part`, and the refusal for the first of them that has a cause.
     pub fn take_rows(
         &mut self,
         alloc: Global,
         components: &[Component],
         set: &PointSet,
+        part: u64,
         rows: &[RawRow],
     ) -> Result<Option<Refusal>, AllocError>
-        requires { IsTally set.now self.old (at_first set.now) }
-        ensures { IfOk result (AnswersRows set.now self.new (rows_judged components.now set.now rows.now)) }
+        requires { IsOfRows set.now self.old }
+        ensures { IfOk result (λ told. (p : Progress) → IsTally set.now self.old p → AnswersRows set.now self.new (rows_judged components.now part (in_new_part p) rows.now) told) }
     {
         for (n, row) in rows.iter().enumerate() {
             match self.take_row(alloc, components, set, row) {
                 Ok(()) => {}
                 Err(RowStop::Refused(cause)) => {
-                    return Ok(Some(refusal(alloc, components, n, row, cause)?));
+                    return Ok(Some(refusal(alloc, components, part, n, row, cause)?));
                 }
                 Err(RowStop::Memory) => return Err(AllocError),
             }
@@ -177,18 +178,20 @@ fn change_to(alloc: Global, old: Option<Arc<Point>>, point: Point) -> Result<Cha
     Ok(Change { key, old, new })
 }
 
-/// The refusal for the row after n others.
+/// The refusal for the row of a part after n others.
 fn refusal(
     alloc: Global,
     components: &[Component],
+    part: u64,
     n: usize,
     row: &RawRow,
     cause: Cause,
 ) -> Result<Refusal, AllocError>
     requires { n < 2 ^ 64 - 1 }
-    ensures { IfOk result (λ refusal. (p : Progress) → length p.keys ≡ n → refusal ≡ refused_at components.now p row.now cause) }
+    ensures { IfOk result (λ refusal. (p : Progress) → p.rows ≡ n → refusal ≡ refused_at components.now part p row.now cause) }
 {
     Ok(Refusal {
+        part,
         row: n as u64 + 1,
         key: key_fields(alloc, components, row.fields.as_slice())?,
         cause,

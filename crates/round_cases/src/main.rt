@@ -3,8 +3,8 @@
 //! A case is a script, the most entries and fields of the journal, and steps; or, after the word `structures`, those of a
 //! structure file for a script without statements. The steps are:
 //!
-//! - `["judge", BY, SET, ROWS]`, a revision whose rows stand between blanks: after `+` one that puts, after `-` one that
-//!   removes; with a number for ROWS it puts so many points;
+//! - `["judge", BY, SET, ROWS, ..]`, a revision with a SET and ROWS for each of its parts. The rows stand between blanks:
+//!   after `+` one that puts, after `-` one that removes; with a number for ROWS the part puts so many points;
 //! - `["open", BY]`;
 //! - `["turn", BY]`: a caller claims a statement, works it out and gives it back. With SET and ROWS another caller finds
 //!   no statement to claim while this one is out, and a third one's revision is judged;

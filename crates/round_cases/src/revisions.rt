@@ -1,7 +1,7 @@
 // Revisions, from their rows between blanks.
 use anyhow::{Result, bail};
 use case_lines::text_at;
-use point_sets::{Action, RawField, RawRow, Revision};
+use point_sets::{Action, Part, RawField, RawRow, Revision};
 use serde_json::Value as Json;
 use sqlite_items::Items;
 use std::alloc::{AllocError, Global};
@@ -51,14 +51,27 @@ fn many_rows(alloc: Global, count: i64) -> Result<Vec<RawRow>> {
     Ok(rows)
 }
 
-/// The revision that a step gives: a data set, and the rows or how many there are.
-pub fn revision_at(alloc: Global, step: &[Json]) -> Result<Revision> {
-    let rows = match step.get(3).and_then(Json::as_i64) {
+// The part that stands at this place of a step: a data set, and the rows or how many there are.
+fn part_at(alloc: Global, step: &[Json], at: usize) -> Result<Part> {
+    let set = Word::from_str(alloc, text_at(step, at)?)?;
+    let next = at.saturating_add(1);
+    let rows = match step.get(next).and_then(Json::as_i64) {
         Some(count) => many_rows(alloc, count)?,
-        None => rows(alloc, text_at(step, 3)?)?,
+        None => rows(alloc, text_at(step, next)?)?,
     };
-    Ok(Revision {
-        set: Word::from_str(alloc, text_at(step, 2)?)?,
+    Ok(Part {
+        set,
         rows: Items::from_vec(rows),
+    })
+}
+
+/// The revision that a step gives, part by part, behind the step's word and the caller.
+pub fn revision_at(alloc: Global, step: &[Json]) -> Result<Revision> {
+    let mut parts = Vec::new(alloc);
+    for pair in 1..step.len() / 2 {
+        parts.push(part_at(alloc, step, 2 * pair)?)?;
+    }
+    Ok(Revision {
+        parts: Items::from_vec(parts),
     })
 }

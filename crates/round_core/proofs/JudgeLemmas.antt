@@ -1,25 +1,23 @@
 -- Judging.
 use Rattle.std.proofs.Common.{◌≡◌, ◌≢◌, ℕ, ◌+◌, ◌<◌, ◌≤◌, true, false, List, [], ◌∷◌, ◌++◌, length, get_or, Option, Some, None, Result, Ok, Err, Vec, vec_capacity, sym, ◌∙◌, ap, refl, arith, subst, length-append, set}
 use Rattle.std.specs.declared.alloc.Global.{Global}
-use Rattle.std.specs.FinMap.{FinMap}
-use Rattle.data_model.specs.Deltas.{Leads}
+use Rattle.std.specs.List.{All}
 use Rattle.point_sets.specs.DataSets.{DataSet}
-use Rattle.point_sets.specs.Changes.{Changes}
 use Rattle.point_sets.specs.declared.revision.Revision.{Revision}
 use Rattle.checked_trees.specs.Scripts.{Script}
 use Rattle.revision_judge.specs.declared.ruling.Refusal.{Refusal}
 use Rattle.revision_judge.specs.declared.ruling.Ruling.TheVariants as ruling
-use Rattle.revision_judge.proofs.Judgements.{number-within, inputs_after-fit}
-use Rattle.revision_judge.specs.Rows.{Progress, rows_judged}
-use Rattle.vtl_values.specs.Structures.{NamedStructures, number_of}
-use Rattle.point_sets.specs.declared.revision.RawRow.{RawRow}
+use Rattle.revision_judge.specs.declared.ruling.Share.{Share}
+use Rattle.revision_judge.specs.Shares.{AreShares, StandsForJudgement}
+use Rattle.revision_judge.proofs.Judgements.{inputs_after-fit, accepted-long}
+use Rattle.revision_judge.proofs.RefusedParts.{one-of-the-parts}
 use Rattle.round_journal.proofs.CountLemmas.{CountsWithin-journal}
-use Rattle.revision_judge.specs.Judging.{AreInputs as AreJudged, components_of, judgement_on, judged_at, Judgement, Fit, Refused as RefusedFor, judged, input, inputs_with, settled, StandsForJudgement}
+use Rattle.revision_judge.specs.Judging.{AreInputs as AreJudged, Judgement, Fit, Refused as RefusedFor, judged, settled}
 use Rattle.round_journal.specs.declared.entry.Entry.{Entry}
 use Rattle.round_journal.specs.declared.entry.What.TheVariants.{Judged}
 use Rattle.round_journal.specs.declared.verdict.Verdict.{Verdict}
 use Rattle.round_journal.specs.declared.verdict.Verdict.TheVariants.{Accepted, Refused}
-use Rattle.round_journal.specs.Journals.{State, Status, after_what, accepted_after, state_of, inputs, old_inputs, new_inputs, inputs_now, fields_of, aside, Over, verdict_on, verdict_for}
+use Rattle.round_journal.specs.Journals.{State, Status, after_what, accepted_after, state_of, inputs, old_inputs, new_inputs, inputs_now, fields_of, name_of_part, aside, Over, verdict_on, verdict_for}
 use Rattle.round_journal.specs.Counts.{PrefixesInOrder}
 use Rattle.round_journal.proofs.InputLemmas.{inputs-after_what, inputs_now-judged, PrefixesInOrder-legal}
 use Rattle.round_journal.proofs.ReadyLemmas.{Over-judged}
@@ -28,7 +26,7 @@ use Rattle.round_core.specs.declared.counts.Counts.{Counts}
 use Rattle.round_core.specs.declared.inputs.Inputs.{Inputs}
 use Rattle.round_core.specs.declared.machine.Machine.{Machine}
 use Rattle.round_core.specs.Answers.{told, full_for}
-use Rattle.round_core.specs.Inputs.{InputsKept}
+use Rattle.round_core.specs.Inputs.{InputsKept, HasInput}
 use Rattle.round_core.specs.Kept.{Scene, scene_of, CountsKept, SlotsKept, Within, Sound, KeptMachine, seen_of}
 use Rattle.round_core.specs.Steps.{Judges, HasRoom}
 use Rattle.round_core.proofs.KeptLemmas.{fits_in, told-small, state_along, long_along, legal_along, seen_along}
@@ -92,29 +90,29 @@ kept_judged a j k i n r v kept has ev counts inputs ej room ek =
 
 -- ---- an accepted revision
 
-pub record FitsSo (xs : List DataSet) (set : ℕ) (delta : Changes) (j : Judgement) : Type 0 where
-  pub next : DataSet
-  pub judgement : j ≡ Fit set next
-  pub leads : Leads delta (input xs set) next
+pub record FitsSo (xs : List DataSet) (shares : List Share) (j : Judgement) : Type 0 where
+  pub afters : List DataSet
+  pub judgement : j ≡ Fit afters
+  pub shared : AreShares xs afters shares
 
-pub fits_so : (xs : List DataSet) (set : ℕ) (delta : Changes) (j : Judgement) → StandsForJudgement xs (ruling.Fit set delta) j → FitsSo xs set delta j
-fits_so xs set delta (Fit n next) h = record { next = next; judgement = ap (λ m. Fit m next) (sym h.same_set); leads = subst (λ m. Leads delta (input xs m) next) (sym h.same_set) h.leads }
-fits_so xs set delta (RefusedFor refusal) h = absurd h
+pub fits_so : (xs : List DataSet) (shares : List Share) (j : Judgement) → StandsForJudgement xs (ruling.Fit shares) j → FitsSo xs shares j
+fits_so xs shares (Fit afters) h = record { afters = afters; judgement = refl; shared = h }
+fits_so xs shares (RefusedFor refusal) h = absurd h
 
 pub refused_so : (xs : List DataSet) (told : Refusal) (j : Judgement) → StandsForJudgement xs (ruling.Refused told) j → j ≡ RefusedFor told
-refused_so xs told (Fit n next) h = absurd h
+refused_so xs told (Fit afters) h = absurd h
 refused_so xs told (RefusedFor refusal) h = ap RefusedFor (sym h)
 
 -- the numbers that fit
 pub count_exact : (a : Machine) (r : Revision) (count : ℕ) → KeptMachine a → HasRoom a r → count ≡ told (fields_of r) → count ≡ fields_of r
 count_exact a r count kept has e = let fits = fits_in (seen_of a) r has.fits in e ∙ told-small (fields_of r) (let l : a.limits.fields ≤ 16000000 = kept.within.fields in omega (arith, fits.fields, l))
 
-pub kept_accepted : (a : Machine) (j : Vec Entry Global) (i : Inputs) (n : ℕ) (r : Revision) (set : ℕ) (delta : Changes) (count : ℕ) → KeptMachine a → HasRoom a r
-    → (h : FitsSo (inputs_now a.script (state_of a.journal.items)) set delta (judged a.script.inputs (inputs_now a.script (state_of a.journal.items)) r))
-    → InputsKept (old_inputs a.script (state_of a.journal.items)) (new_inputs a.script (state_of a.journal.items)) (inputs_with (inputs_now a.script (state_of a.journal.items)) set h.next) i
+pub kept_accepted : (a : Machine) (j : Vec Entry Global) (i : Inputs) (n : ℕ) (r : Revision) (shares : List Share) (count : ℕ) → KeptMachine a → HasRoom a r
+    → (h : FitsSo (inputs_now a.script (state_of a.journal.items)) shares (judged a.script.inputs (inputs_now a.script (state_of a.journal.items)) r))
+    → InputsKept (old_inputs a.script (state_of a.journal.items)) (new_inputs a.script (state_of a.journal.items)) h.afters i
     → j.items ≡ a.journal.items ++ (record { by = n; what = Judged r (Accepted (a.counts.accepted + 1)) }) ∷ [] → vec_capacity a.journal ≤ vec_capacity j → count ≡ told (fields_of r)
     → Judges a n r (Accepted (a.counts.accepted + 1)) (record a { journal = j; counts = record a.counts { accepted = a.counts.accepted + 1; fields = a.counts.fields + count }; inputs = i })
-kept_accepted a j i n r set delta count kept has h inputs ej room ec =
+kept_accepted a j i n r shares count kept has h inputs ej room ec =
     let c = a.script in
     let s : State = state_of a.journal.items in
     let v : Verdict = Accepted (a.counts.accepted + 1) in
@@ -133,22 +131,22 @@ kept_accepted a j i n r set delta count kept has h inputs ej room ec =
       to = old.to;
       aside = old.aside;
     } in
-    let along : inputs_with (inputs_now c s) set h.next ≡ inputs_now c (after_what s n (Judged r v)) = sym (ap (λ w. inputs_now c (after_what s n (Judged r w))) ev ∙ inputs_now-judged c s n r ∙ ap (settled (inputs_now c s)) h.judgement) in
+    let along : h.afters ≡ inputs_now c (after_what s n (Judged r v)) = sym (ap (λ w. inputs_now c (after_what s n (Judged r w))) ev ∙ inputs_now-judged c s n r ∙ ap (settled (inputs_now c s)) h.judgement) in
     kept_judged a j k i n r v kept has ev counts (subst (λ (xs : List DataSet). InputsKept (old_inputs c s) (new_inputs c s) xs i) along inputs) ej room refl
 
 -- ---- a refused one
 
-pub kept_refused : (a : Machine) (j : Vec Entry Global) (n : ℕ) (r : Revision) (told_refusal : Refusal) (set : List ℕ) (count : ℕ) → KeptMachine a → HasRoom a r
-    → judged a.script.inputs (inputs_now a.script (state_of a.journal.items)) r ≡ RefusedFor told_refusal → set ≡ r.set
-    → j.items ≡ a.journal.items ++ (record { by = n; what = Judged r (Refused set told_refusal) }) ∷ [] → vec_capacity a.journal ≤ vec_capacity j → count ≡ told (fields_of r)
-    → Judges a n r (Refused set told_refusal) (record a { journal = j; counts = record a.counts { fields = a.counts.fields + count } })
-kept_refused a j n r refusal set count kept has h es ej room ec =
+pub kept_refused : (a : Machine) (j : Vec Entry Global) (n : ℕ) (r : Revision) (told_refusal : Refusal) (set : List ℕ) (parts count : ℕ) → KeptMachine a → HasRoom a r
+    → judged a.script.inputs (inputs_now a.script (state_of a.journal.items)) r ≡ RefusedFor told_refusal → set ≡ name_of_part r.parts told_refusal.part → parts ≡ length r.parts
+    → j.items ≡ a.journal.items ++ (record { by = n; what = Judged r (Refused set parts told_refusal) }) ∷ [] → vec_capacity a.journal ≤ vec_capacity j → count ≡ told (fields_of r)
+    → Judges a n r (Refused set parts told_refusal) (record a { journal = j; counts = record a.counts { fields = a.counts.fields + count } })
+kept_refused a j n r refusal set parts count kept has h es ep ej room ec =
     let c = a.script in
     let s : State = state_of a.journal.items in
-    let v : Verdict = Refused set refusal in
+    let v : Verdict = Refused set parts refusal in
     let k : Counts = record a.counts { fields = a.counts.fields + count } in
     let old = kept.sound.counts in
-    let ev : v ≡ verdict_on c s r = ap (λ w. Refused w refusal) es ∙ ap (verdict_for r (length s.accepted + 1)) (sym h) in
+    let ev : v ≡ verdict_on c s r = (λ i. Refused (es i) (ep i) refusal) ∙ ap (verdict_for r (length s.accepted + 1)) (sym h) in
     let counts : CountsKept c k (after_what s n (Judged r v)) = record {
       accepted = old.accepted;
       fields = ap (λ m. m + count) old.fields ∙ ap (λ m. s.fields + m) (count_exact a r count kept has ec);
@@ -172,23 +170,26 @@ kept_inputs a i k h = record {
   live = k.live;
 }
 
-judged_number : (m n : ℕ) (next : DataSet) (r : Result Progress Refusal) → judgement_on m r ≡ Fit n next → m ≡ n
-judged_number m n next (Ok p) e = cc e
-judged_number m n next (Err refusal) e = cc e
-
-fit_at : (structures : NamedStructures) (xs : List DataSet) (rows : List RawRow) (found : Option ℕ) (n : ℕ) (next : DataSet) → ((m : ℕ) → found ≡ Some m → m < length xs) → judged_at structures xs rows found ≡ Fit n next → n < length xs
-fit_at structures xs rows None n next within e = cc e
-fit_at structures xs rows (Some m) n next within e = let q = judged_number m n next (rows_judged (components_of structures m) (input xs m) rows) e in let l = within m refl in omega (arith, q, l)
-
--- an accepted revision is of one of the inputs
-pub set_below : (a : Machine) (r : Revision) (set : ℕ) (next : DataSet) → Sound a (state_of a.journal.items) → judged a.script.inputs (inputs_now a.script (state_of a.journal.items)) r ≡ Fit set next → (set < length a.inputs.sets.items) × (set < length a.inputs.changes.items)
-set_below a r set next sound e =
-    let s : State = state_of a.journal.items in
-    let xs = inputs_now a.script s in
-    let l = fit_at a.script.inputs xs r.rows (number_of a.script.inputs r.set) set next (λ m is. number-within a.script.inputs xs r.set m (inputs_after-fit a.script.inputs s.accepted) is) e in
+-- the shares of an accepted revision are of the inputs
+pub shares_below : (a : Machine) (xs afters : List DataSet) (shares : List Share) → Sound a (state_of a.journal.items) → xs ≡ inputs_now a.script (state_of a.journal.items) → AreShares xs afters shares → All (λ share. HasInput a.inputs share.set) shares
+shares_below a xs afters shares sound e h k d l =
+    let below = (h.each k d l).below in
+    let long = ap length e in
     let p = ap length sound.inputs.sets in
     let q = sound.inputs.many in
-    (omega (arith, l, p), omega (arith, l, q))
+    (omega (arith, below, long, p), omega (arith, below, long, q))
+
+-- the inputs are as many after it
+pub afters_long : (a : Machine) (r : Revision) (afters : List DataSet) → judged a.script.inputs (inputs_now a.script (state_of a.journal.items)) r ≡ Fit afters → length afters ≡ length (inputs_now a.script (state_of a.journal.items))
+afters_long a r afters e = accepted-long a.script.inputs (inputs_now a.script (state_of a.journal.items)) r afters e
+
+-- a refused revision is refused in one of its parts
+pub part_within : (a : Machine) (r : Revision) (refusal : Refusal) → judged a.script.inputs (inputs_now a.script (state_of a.journal.items)) r ≡ RefusedFor refusal → (1 ≤ refusal.part) × (refusal.part ≤ length r.parts)
+part_within a r refusal e = one-of-the-parts a.script.inputs (inputs_now a.script (state_of a.journal.items)) r refusal e
+
+-- inputs that are the same are kept as they were
+pub same_inputs : (a : Machine) (i : Inputs) → KeptMachine a → i ≡ a.inputs → KeptMachine (record a { inputs = i })
+same_inputs a i kept e = kept_inputs a i kept (subst (InputsKept (old_inputs a.script (state_of a.journal.items)) (new_inputs a.script (state_of a.journal.items)) (inputs_now a.script (state_of a.journal.items))) (sym e) kept.sound.inputs)
 
 pub accepted_few : (a : Machine) → Within a → Sound a (state_of a.journal.items) → a.counts.accepted ≤ 4000000
 accepted_few a w sound = let h = (CountsWithin-journal a.journal.items).accepted in let l : a.limits.entries ≤ 4000000 = w.entries in omega (arith, h, l, w.fits, sound.counts.accepted)

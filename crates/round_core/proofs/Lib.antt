@@ -10,6 +10,7 @@ mod GiveLemmas
 mod BackLemmas
 mod OpenLemmas
 mod NewLemmas
+mod NextLemmas
 mod StepLemmas
 mod RunLemmas
 mod AnswerLemmas

@@ -1,7 +1,10 @@
 -- Changes that are kept in parts.
-use Rattle.std.proofs.Common.{◌≡◌, ℕ, ◌+◌, ◌<◌, List, [], ◌∷◌, ◌++◌, length, get_or, take, sym, ◌∙◌, ap, refl, arith, subst}
+use Rattle.std.proofs.Common.{◌≡◌, ℕ, ◌+◌, ◌<◌, ◌≤◌, List, [], ◌∷◌, ◌++◌, length, get_or, take, map, sym, ◌∙◌, ap, refl, arith, subst}
 use Rattle.std.specs.FinMap.{empty}
-use Rattle.std.proofs.lemmas.List.{take_all, take_more}
+use Rattle.std.specs.Arc.{arc_value}
+use Rattle.std.specs.declared.sync.Arc.{Arc}
+use Rattle.std.specs.declared.alloc.Global.{Global}
+use Rattle.std.proofs.lemmas.List.{take_all, take_more, take-map, get_or-map, map-append, length-map}
 use Rattle.data_model.specs.Deltas.{Leads}
 use Rattle.point_sets.specs.DataSets.{DataSet}
 use Rattle.point_sets.specs.Changes.{Changes}
@@ -39,6 +42,32 @@ pub run_joined : (ds runs : List Changes) (k n : ℕ) (run e f : Changes) → Le
 run_joined ds runs k n run e f h en l er joins x y leads =
     let more : take n runs ≡ take k runs ++ run ∷ [] = ap (λ m. take m runs) en ∙ take_more runs k run l ∙ ap (λ (d : Changes). take k runs ++ d ∷ []) (sym er) in
     last_joined (take k runs) run e f joins x y (subst (λ (rs : List Changes). LeadsThrough (rs ++ e ∷ []) x y) more (h x y leads))
+
+-- a part that is looked up is that part of the change
+pub run_at : (runs : List (Arc Changes Global)) (k : ℕ) (run : Arc Changes Global) → k < length runs → run ≡ get_or runs k run → arc_value run ≡ get_or (map arc_value runs) k (arc_value run)
+run_at runs k run l e = ap arc_value e ∙ sym (get_or-map arc_value runs k run (arc_value run) l)
+
+pub run_joined_at : (ds : List Changes) (runs : List (Arc Changes Global)) (k n : ℕ) (run : Arc Changes Global) (d e f : Changes) → LeadAlike ds (take n (map arc_value runs) ++ e ∷ []) → n ≡ k + 1 → k < length runs → run ≡ get_or runs k run → d ≡ arc_value run → Joins d e f → LeadAlike ds (take k (map arc_value runs) ++ f ∷ [])
+run_joined_at ds runs k n run d e f h en l er ed joins =
+    run_joined ds (map arc_value runs) k n (arc_value run) e f h en (let long = length-map runs arc_value in omega (arith, l, long)) (run_at runs k run l er) (subst (λ (q : Changes). Joins q e f) ed joins)
+
+-- the first parts, with one more
+pub first_more : (first made : List (Arc Changes Global)) (i : ℕ) (run x : Arc Changes Global) → i < length first → run ≡ get_or first i run → map arc_value made ≡ take i (map arc_value first) → arc_value x ≡ arc_value run → map arc_value (made ++ x ∷ []) ≡ take (i + 1) (map arc_value first)
+first_more first made i run x l er h ex =
+    map-append arc_value made (x ∷ [])
+    ∙ (λ j. h j ++ ex j ∷ [])
+    ∙ ap (λ (d : Changes). take i (map arc_value first) ++ d ∷ []) (run_at first i run l er)
+    ∙ sym (take_more (map arc_value first) i (arc_value run) (let long = length-map first arc_value in omega (arith, l, long)))
+
+pub first_all : (first made all : List (Arc Changes Global)) (n kept : ℕ) → map arc_value made ≡ take n (map arc_value first) → length first ≤ n → first ≡ take kept all → map arc_value made ≡ take kept (map arc_value all)
+first_all first made all n kept h past e =
+    h ∙ take_all n (map arc_value first) (let long = length-map first arc_value in omega (arith, past, long)) ∙ ap (map arc_value) e ∙ sym (take-map arc_value kept all)
+
+-- the change with one part more
+pub and_run : (old front : List (Arc Changes Global)) (n : ℕ) (d last : Changes) (run : Arc Changes Global) → LeadAlike (map arc_value old ++ d ∷ []) (take n (map arc_value old) ++ last ∷ []) → map arc_value front ≡ take n (map arc_value old) → arc_value run ≡ last → LeadAlike (map arc_value old ++ d ∷ []) (map arc_value (front ++ run ∷ []))
+and_run old front n d last run h ef er =
+    let is : map arc_value (front ++ run ∷ []) ≡ take n (map arc_value old) ++ last ∷ [] = map-append arc_value front (run ∷ []) ∙ (λ i. ef i ++ er i ∷ []) in
+    subst (LeadAlike (map arc_value old ++ d ∷ [])) (sym is) h
 
 -- at first no run is joined
 pub all_runs : (runs : List Changes) (n : ℕ) (d : Changes) → n ≡ length runs → LeadAlike (runs ++ d ∷ []) (take n runs ++ d ∷ [])

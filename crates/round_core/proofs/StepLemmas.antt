@@ -1,10 +1,9 @@
 -- Steps of loops.
-use Rattle.std.proofs.Common.{◌≡◌, ◌≢◌, ◌⊎◌, inl, inr, ℕ, zero, suc, ◌+◌, ◌<◌, ◌≤◌, Bool, true, false, cond, List, [], ◌∷◌, ◌++◌, length, get_or, take, drop, Option, Some, None, Result, Ok, Err, Vec, set, sym, ◌∙◌, ap, refl, arith, subst, length-append, append_assoc}
+use Rattle.std.proofs.Common.{◌≡◌, ◌≢◌, ◌⊎◌, inl, inr, ℕ, zero, suc, ◌+◌, ◌<◌, ◌≤◌, Bool, true, false, cond, List, [], ◌∷◌, ◌++◌, length, get_or, take, drop, map, Option, Some, None, Result, Ok, Err, Vec, set, sym, ◌∙◌, ap, refl, arith, subst, length-append, append_assoc}
 use Rattle.std.specs.Prelude.{count_by, IfOk, OnErr}
 use Rattle.std.proofs.lemmas.Bool.{cases_eq}
 use Rattle.std.proofs.lemmas.List.{length-set, get_or-set_same, get_or-set_other, set-get_or}
 use Rattle.std.proofs.lemmas.Option.{unwrap_or-slice_get}
-use Rattle.revision_judge.specs.Judging.{input, inputs_with}
 use Rattle.std.specs.Arc.{arc_value}
 use Rattle.std.specs.FinMap.{empty}
 use Rattle.std.specs.List.{All, Contains, slice_get}
@@ -53,7 +52,7 @@ starts_older x z delta (Some d) h l = subst (λ (q : Changes). Leads q x z) (sym
 
 -- a change that starts from one that leads all the way
 pub carries_by : (change next : InputChange) (delta : Changes) → Starts delta next → ((x y z : DataSet) → ChangeKept x y z change → Leads delta x z) → Carries change next
-carries_by change next delta s h x y z k = record { older = starts_older x z delta next.older s.older_is (h x y z k); newer = subst (λ (ds : List Changes). LeadsThrough ds z z) (sym s.newer_is) refl }
+carries_by change next delta s h x y z k = record { older = starts_older x z delta next.older s.older_is (h x y z k); newer = subst (λ (ds : List (Arc Changes Global)). LeadsThrough (map arc_value ds) z z) (sym s.newer_is) refl }
 
 -- ---- slots
 
@@ -129,40 +128,6 @@ if_ok_weaker P Q (Err e) h f = tt
 pub on_err_of : {A E : Type 0} (P : Type 0) (r : Result A E) → P → OnErr r P
 on_err_of P (Ok x) h = tt
 on_err_of P (Err e) h = h
-
--- ---- inputs
-
-at_input : (xs : List DataSet) (n : ℕ) → input xs n ≡ get_or xs n empty
-at_input xs n = unwrap_or-slice_get xs n empty
-
-pub kept_take : (bases tos nows : List DataSet) (a b : Inputs) (n : ℕ) (next : DataSet) (change : InputChange) (newer : Runs) → InputsKept bases tos nows a → n < length a.sets.items → n < length a.changes.items → b.sets.items ≡ set a.sets.items n next → b.changes.items ≡ set a.changes.items n (record change { newer = newer }) → change ≡ get_or a.changes.items n change → LeadsThrough newer.runs.items (input tos n) next → InputsKept bases tos (inputs_with nows n next) b
-kept_take bases tos nows a b n next change newer k ls lc es ec e leads = record {
-  sets = es ∙ ap (λ (xs : List DataSet). set xs n next) k.sets;
-  many = ap length ec ∙ length-set a.changes.items n (record change { newer = newer }) ∙ k.many ∙ sym (length-set nows n next);
-  each = λ m d l.
-      let lm : m < length nows = omega (arith, l, length-set nows n next) in
-      let ln : n < length nows = let q = ap length k.sets in omega (arith, ls, q) in
-      subst (λ (cs : List InputChange). ChangeKept (input bases m) (input tos m) (input (set nows n next) m) (get_or cs m d)) (sym ec) (elim (cases_eq m n) [
-        | inl same ↦
-            subst (λ (q : ℕ). ChangeKept (input bases q) (input tos q) (input (set nows n next) q) (get_or (set a.changes.items n (record change { newer = newer })) q d)) (sym same)
-            (subst (λ (c : InputChange). ChangeKept (input bases n) (input tos n) (input (set nows n next) n) c) (sym (get_or-set_same a.changes.items n (record change { newer = newer }) d lc))
-            (record {
-              older = subst (λ (c : InputChange). LeadsOrStays (input bases n) (input tos n) c.older) (sym e) (k.each n change ln).older;
-              newer = subst (λ (z : DataSet). LeadsThrough newer.runs.items (input tos n) z) (sym (at_input (set nows n next) n ∙ get_or-set_same nows n next empty ln)) leads;
-            }))
-        | inr other ↦
-            subst (λ (c : InputChange). ChangeKept (input bases m) (input tos m) (input (set nows n next) m) c) (sym (get_or-set_other a.changes.items n m (record change { newer = newer }) d other))
-            (subst (λ (z : DataSet). ChangeKept (input bases m) (input tos m) z (get_or a.changes.items m d)) (at_input nows m ∙ sym (get_or-set_other nows n m next empty other) ∙ sym (at_input (set nows n next) m)) (k.each m d lm))
-      ]);
-}
-
--- where nothing could be taken, the changes are still the same
-pub kept_untaken : (bases tos nows : List DataSet) (a b : Inputs) (n : ℕ) (change : InputChange) (newer : Runs) → InputsKept bases tos nows a → n < length a.sets.items → n < length a.changes.items → b.sets.items ≡ a.sets.items → b.changes.items ≡ set a.changes.items n (record change { newer = newer }) → change ≡ get_or a.changes.items n change → newer.runs.items ≡ change.newer.runs.items → InputsKept bases tos nows b
-kept_untaken bases tos nows a b n change newer k ls lc es ec e same =
-    let ln : n < length nows = let q = ap length k.sets in omega (arith, ls, q) in
-    let sets : b.sets.items ≡ set a.sets.items n (input nows n) = es ∙ sym (set-get_or a.sets.items n empty) ∙ ap (λ (xs : List DataSet). set a.sets.items n (get_or xs n empty)) k.sets ∙ ap (set a.sets.items n) (sym (at_input nows n)) in
-    let leads : LeadsThrough newer.runs.items (input tos n) (input nows n) = subst (λ (ds : List Changes). LeadsThrough ds (input tos n) (input nows n)) (sym same) (subst (λ (c : InputChange). LeadsThrough c.newer.runs.items (input tos n) (input nows n)) (sym e) (k.each n change ln).newer) in
-    subst (λ (xs : List DataSet). InputsKept bases tos xs b) (ap (set nows n) (at_input nows n) ∙ set-get_or nows n empty) (kept_take bases tos nows a b n (input nows n) change newer k ls lc sets ec e leads)
 
 -- ---- counts
 

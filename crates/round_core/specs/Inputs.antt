@@ -1,8 +1,9 @@
 -- What the changes of inputs lead from and to.
-use Rattle.std.specs.Prelude.{◌≡◌, ◌<◌, ℕ, List, [], ◌∷◌, length, slice_index_or, Option, Some, None}
+use Rattle.std.specs.Prelude.{◌≡◌, ◌≢◌, ◌<◌, ℕ, List, [], ◌∷◌, map, length, slice_index_or, Option, Some, None}
 use Rattle.std.specs.Arc.{arc_value}
 use Rattle.std.specs.declared.sync.Arc.{Arc}
 use Rattle.std.specs.declared.alloc.Global.{Global}
+use Rattle.std.specs.List.{All}
 use Rattle.std.specs.Option.{IsSomeAnd}
 use Rattle.std.specs.FinMap.{empty}
 use Rattle.data_model.specs.Deltas.{Leads}
@@ -11,6 +12,8 @@ use Rattle.point_sets.specs.Changes.{Changes}
 use Rattle.revision_judge.specs.Judging.{input}
 use Rattle.round_core.specs.declared.inputs.InputChange.{InputChange}
 use Rattle.round_core.specs.declared.inputs.Inputs.{Inputs}
+use Rattle.round_core.specs.declared.inputs.Next.{Next}
+use Rattle.round_core.specs.declared.runs.Runs.{Runs}
 
 -- each leads on from where the one before it leads
 abbrev pub LeadsThrough : List Changes → DataSet → DataSet → Type 0
@@ -21,6 +24,10 @@ LeadsThrough (d ∷ ds) x y = (z : DataSet) × Leads d x z × LeadsThrough ds z 
 abbrev pub LeadAlike : List Changes → List Changes → Type 0
 LeadAlike ds es = (x y : DataSet) → LeadsThrough ds x y → LeadsThrough es x y
 
+-- the parts of a change
+abbrev pub changes_in : Runs → List Changes
+changes_in runs = map arc_value runs.runs.items
+
 -- nothing changed, or the change leads from the one to the other
 abbrev pub LeadsOrStays : DataSet → DataSet → Option (Arc Changes Global) → Type 0
 LeadsOrStays x y None = x ≡ y
@@ -29,7 +36,7 @@ LeadsOrStays x y (Some d) = Leads (arc_value d) x y
 -- an input was x at the last release, y as the last round was opened, and is z now
 pub record ChangeKept (x y z : DataSet) (change : InputChange) : Type 0 where
   pub older : LeadsOrStays x y change.older
-  pub newer : LeadsThrough change.newer.runs.items y z
+  pub newer : LeadsThrough (changes_in change.newer) y z
 
 -- the change as a round is opened over the input of now
 abbrev pub Carries : InputChange → InputChange → Type 0
@@ -65,3 +72,17 @@ pub record AreEmpty (many : ℕ) (a : Inputs) : Type 0 where
   pub changes : length a.changes.items ≡ many
   pub empty_sets : (i : ℕ) (d : DataSet) → i < many → slice_index_or a.sets.items i d ≡ empty
   pub none_changed : (i : ℕ) (d : InputChange) → i < many → ChangeKept empty empty empty (slice_index_or a.changes.items i d)
+
+-- there is an input with the number
+abbrev pub HasInput : Inputs → ℕ → Type 0
+HasInput a n = (n < length a.sets.items) × (n < length a.changes.items)
+
+-- an input as it is after a revision, and how it came to be since the last round was opened
+pub record IsNext (tos afters : List DataSet) (next : Next) : Type 0 where
+  pub value_is : next.value ≡ input afters next.set
+  pub newer : LeadsThrough (changes_in next.newer) (input tos next.set) (input afters next.set)
+
+-- these inputs are as they are after a revision, and it leaves the others
+pub record AreNexts (tos nows afters : List DataSet) (nexts : List Next) : Type 0 where
+  pub each : All (IsNext tos afters) nexts
+  pub others : (n : ℕ) → All (λ next. next.set ≢ n) nexts → input afters n ≡ input nows n

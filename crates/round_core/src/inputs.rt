@@ -1,13 +1,15 @@
 // The input data sets of a production, and how they came from those of its last release.
-ghost use Rattle.std.specs.Prelude.{◌≡◌, ◌<◌, IfOk, OnOk, OnErr, List, length};
+ghost use Rattle.std.specs.Prelude.{◌≡◌, IfOk, OnOk, OnErr, List, length};
+ghost use Rattle.std.specs.List.{All};
 ghost use Rattle.std.specs.FinMap as finmap;
-ghost use Rattle.data_model.specs.Deltas.{Leads};
 ghost use Rattle.point_sets.specs.DataSets.{DataSet};
-ghost use Rattle.revision_judge.specs.Judging.{input, inputs_with};
-ghost use Rattle.round_core.specs.Inputs.{ChangeKept, InputsKept, AreEmpty, Carries, Starts, AllCarry, AllClosed};
+ghost use Rattle.revision_judge.specs.Shares.{IsShare, AreShares};
+ghost use Rattle.round_core.specs.Inputs.{ChangeKept, InputsKept, AreEmpty, Carries, Starts, AllCarry, AllClosed, HasInput, IsNext, AreNexts};
 
 use crate::runs::Runs;
 use point_sets::{Delta, PointSet, compose};
+use revision_judge::Share;
+use sqlite_items::Items;
 use std::alloc::{AllocError, Global};
 use std::sync::Arc;
 
@@ -24,6 +26,15 @@ pub struct InputChange {
 pub struct Inputs {
     pub sets: Vec<PointSet>,
     pub changes: Vec<InputChange>,
+}
+
+/// What becomes of the input with this number: the data set after a revision, and how it came to be since the last round
+/// was opened.
+#[derive(Drop)]
+pub struct Next {
+    pub set: usize,
+    pub value: PointSet,
+    pub newer: Runs,
 }
 
 impl Inputs {
@@ -43,19 +54,55 @@ impl Inputs {
         Ok(Inputs { sets, changes })
     }
 
-    /// Puts a change into the input with this number.
-    pub fn take(&mut self, n: usize, delta: Delta) -> Result<(), AllocError>
-        requires sets { n < length self.old.sets.items }
-        requires changes { n < length self.old.changes.items }
-        ensures kept { (bases tos nows : List DataSet) (next : DataSet) → InputsKept bases tos nows self.old → Leads delta (input nows n) next → OnOk result (InputsKept bases tos (inputs_with nows n next) self.new) }
-        ensures err { (bases tos nows : List DataSet) → InputsKept bases tos nows self.old → OnErr result (InputsKept bases tos nows self.new) }
+    /// Puts the shares of a revision in place. Where memory is wanting for one of them, none is.
+    pub fn take(&mut self, shares: Items<Share>) -> Result<(), AllocError>
+        requires { All (λ share. HasInput self.old share.set) shares }
+        ensures kept { (bases tos nows afters : List DataSet) → InputsKept bases tos nows self.old → AreShares nows afters shares → length afters ≡ length nows → OnOk result (InputsKept bases tos afters self.new) }
+        ensures err { OnErr result (self.new ≡ self.old) }
     {
-        let mut set = self.sets[n].copy()?;
-        set.apply(&delta)?;
-        let change = &mut self.changes[n];
-        change.newer.push(delta)?;
-        self.sets[n] = set;
+        let nexts = self.nexts(shares)?;
+        self.put(nexts);
         Ok(())
+    }
+
+    /// What the shares make of their inputs.
+    fn nexts(&self, shares: Items<Share>) -> Result<Vec<Next>, AllocError>
+        requires { All (λ share. HasInput self.now share.set) shares }
+        ensures numbers { IfOk result (λ nexts. All (λ next. HasInput self.now next.set) nexts.items) }
+        ensures values { IfOk result (λ nexts. (bases tos nows afters : List DataSet) → InputsKept bases tos nows self.now → AreShares nows afters shares → AreNexts tos nows afters nexts.items) }
+    {
+        let mut nexts = Vec::new(*self.sets.allocator());
+        let mut left = shares;
+        while let Some(share) = left.pop() {
+            nexts.push(self.next(share)?)?;
+        }
+        Ok(nexts)
+    }
+
+    /// What a share makes of its input.
+    fn next(&self, share: Share) -> Result<Next, AllocError>
+        requires { HasInput self.now share.set }
+        ensures number { IfOk result (λ next. next.set ≡ share.set) }
+        ensures value { IfOk result (λ next. (bases tos nows afters : List DataSet) → InputsKept bases tos nows self.now → IsShare nows afters share → IsNext tos afters next) }
+    {
+        let Share { set, delta } = share;
+        let set = set as usize;
+        let mut value = self.sets[set].copy()?;
+        value.apply(&delta)?;
+        let newer = self.changes[set].newer.and(delta)?;
+        Ok(Next { set, value, newer })
+    }
+
+    /// Puts them in place.
+    fn put(&mut self, nexts: Vec<Next>)
+        requires { All (λ next. HasInput self.old next.set) nexts.items }
+        ensures { (bases tos nows afters : List DataSet) → InputsKept bases tos nows self.old → AreNexts tos nows afters nexts.items → length afters ≡ length nows → InputsKept bases tos afters self.new }
+    {
+        for next in nexts {
+            let Next { set, value, newer } = next;
+            self.sets[set] = value;
+            self.changes[set].newer = newer;
+        }
     }
 
     /// The changes once a round is opened over the inputs of now.

@@ -2,8 +2,9 @@
 ghost use Rattle.std.specs.Prelude.{◌≡◌, ◌≢◌, ◌≤◌, ◌<◌, ◌+◌, ◌-◌, ◌++◌, ◌∷◌, [], ℕ, slice_index_or, slice_set, true, false, IfOk, IfSome, OnErr, Some, None, length, vec_len, vec_capacity};
 ghost use Rattle.std.specs.List.{All};
 ghost use Rattle.checked_trees.specs.Scripts.{IsChecked};
-ghost use Rattle.revision_judge.specs.Judging.{StandsForJudgement, judged};
-ghost use Rattle.round_journal.specs.Journals.{state_of, fields_of, inputs_now, IsOutBy};
+ghost use Rattle.revision_judge.specs.Judging.{judged};
+ghost use Rattle.revision_judge.specs.Shares.{StandsForJudgement};
+ghost use Rattle.round_journal.specs.Journals.{state_of, part_fields, fields_of, name_of_part, inputs_now, IsOutBy};
 ghost use Rattle.round_journal.specs.Stands.{DoneStands};
 ghost use Rattle.round_core.specs.Answers.{told, entries_wanting, full_for, cannot_open, Claims, given_what};
 ghost use Rattle.round_core.specs.Kept.{KeptMachine, seen_of};
@@ -20,14 +21,15 @@ use crate::moves::{collect_pages, first_pages, first_slots, hand_on, prepare};
 use crate::slot::{Slot, Stage};
 use crate::stops::{Given, OpenStop};
 use checked_trees::CheckedScript;
-use point_sets::{Delta, Revision};
+use point_sets::{Part, Revision};
 use release_text::{Pages, Release};
-use revision_judge::{Refusal, Ruling, judge};
+use revision_judge::{Refusal, Ruling, Share, judge};
 use round_journal::{Entry, Journal, ScriptFault, Verdict, What};
 use sqlite_items::Items;
 use std::alloc::{AllocError, Global};
 use std::mem;
 use transform_nodes::{DoneParts, Finish, Node, Work};
+use vtl_values::Word;
 
 /// The parts of a production: the script, the limits, all that happened, what it counts, the inputs, a slot for each
 /// statement, the room of the release of the open round, and the latest release.
@@ -55,16 +57,37 @@ pub fn note(journal: &mut Vec<Entry>, by: u64, what: What)
     }
 }
 
-/// The fields of all rows of a revision, or the last number where there are more.
-fn count_fields(revision: &Revision) -> u64
-    ensures { result ≡ told (fields_of revision.now) }
+/// The fields of all rows of a part, or the last number where there are more.
+fn part_fields(part: &Part) -> u64
+    ensures { result ≡ told (part_fields part.now) }
 {
     let mut count: u64 = 0;
-    let rows = revision.rows.as_slice();
+    let rows = part.rows.as_slice();
     for row in rows {
         count = count.saturating_add(row.fields.len() as u64);
     }
     count
+}
+
+/// The fields of all parts of a revision, or the last number where there are more.
+fn count_fields(revision: &Revision) -> u64
+    ensures { result ≡ told (fields_of revision.now) }
+{
+    let mut count: u64 = 0;
+    let parts = revision.parts.as_slice();
+    for part in parts {
+        count = count.saturating_add(part_fields(part));
+    }
+    count
+}
+
+/// The name that a part gives its data set. The parts are counted from 1.
+fn name_of_part(parts: &[Part], n: u64) -> Result<Word, AllocError>
+    requires first { 1 ≤ n }
+    requires last { n ≤ length parts.now }
+    ensures { IfOk result (λ name. name ≡ name_of_part parts.now n) }
+{
+    parts[n as usize - 1].set.copy()
 }
 
 impl Machine {
@@ -181,7 +204,7 @@ impl Machine {
             &revision,
         )?;
         match ruling {
-            Ruling::Fit { set, delta } => self.accept(by, revision, set, delta),
+            Ruling::Fit { shares } => self.accept(by, revision, shares),
             Ruling::Refused(refusal) => self.refuse(by, revision, refusal),
         }
     }
@@ -190,16 +213,15 @@ impl Machine {
         &mut self,
         by: u64,
         revision: Revision,
-        set: u64,
-        delta: Delta,
+        shares: Items<Share>,
     ) -> Result<Verdict, AllocError>
         requires kept { KeptMachine self.old }
         requires room { HasRoom self.old revision }
-        requires judged { StandsForJudgement (inputs_now self.old.script (state_of self.old.journal.items)) (Ruling.Fit set delta) (judged self.old.script.inputs (inputs_now self.old.script (state_of self.old.journal.items)) revision) }
+        requires judged { StandsForJudgement (inputs_now self.old.script (state_of self.old.journal.items)) (Ruling.Fit shares) (judged self.old.script.inputs (inputs_now self.old.script (state_of self.old.journal.items)) revision) }
         ensures ok { IfOk result (λ v. Judges self.old by revision v self.new) }
         ensures err { OnErr result (Stays self.old self.new) }
     {
-        self.inputs.take(set as usize, delta)?;
+        self.inputs.take(shares)?;
         self.counts.accepted += 1;
         self.counts.fields += count_fields(&revision);
         let receipt = self.counts.accepted;
@@ -221,14 +243,20 @@ impl Machine {
         ensures err { OnErr result (Stays self.old self.new) }
     {
         let alloc = *self.journal.allocator();
+        let parts = revision.parts.len() as u64;
+        let set = name_of_part(revision.parts.as_slice(), refusal.part)?;
         let verdict = Verdict::Refused {
-            set: revision.set.copy()?,
+            set: set.copy()?,
+            parts,
             refusal: refusal.copy(alloc)?,
         };
-        let set = revision.set.copy()?;
         self.counts.fields += count_fields(&revision);
         note(&mut self.journal, by, What::Judged { revision, verdict });
-        Ok(Verdict::Refused { set, refusal })
+        Ok(Verdict::Refused {
+            set,
+            parts,
+            refusal,
+        })
     }
 
     /// Sets aside what a round needs, and answers the changes of the inputs that it goes by.

@@ -95,7 +95,7 @@ impl Production {
         &self.machine.latest
     }
 
-    /// Judges a revision against the inputs of now. An accepted one changes its input, and gets the next receipt, from
+    /// Judges a revision against the inputs of now. An accepted one changes its inputs, and gets the next receipt, from
     /// 1; a refused one changes none.
     pub fn judge_one(&mut self, by: u64, revision: Revision) -> Result<Verdict, SubmitStop>
         ensures judged { IfOk result (λ v. (v ≡ verdict_on self.old.script (state_in self.old) revision) × (self.new ≡ seen_with self.old by (What.Judged revision v))) }

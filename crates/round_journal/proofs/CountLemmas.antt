@@ -19,7 +19,7 @@ use Rattle.round_journal.proofs.JournalLemmas.{of_legal}
 
 accepted_after-few : (rs : List Revision) (r : Revision) (v : Verdict) → length (accepted_after rs r v) ≤ length rs + 1
 accepted_after-few rs r (Accepted n) = omega (arith, length-append rs (r ∷ []))
-accepted_after-few rs r (Refused set refusal) = omega arith
+accepted_after-few rs r (Refused set parts refusal) = omega arith
 
 CountsWithin-more : (s : State) (m n : ℕ) (w : What) → CountsWithin s m → CountsWithin (after_what s n w) (m + 1)
 CountsWithin-more s m n (Judged r v) h = record { accepted = omega (arith, accepted_after-few s.accepted r v, h.accepted); rounds = omega (arith, h.rounds); number = omega (arith, h.number) }

@@ -1,6 +1,6 @@
 -- Prefixes, and the inputs after them.
 use Rattle.std.proofs.Common.{◌≡◌, ◌≤◌, ◌+◌, ℕ, List, [], ◌∷◌, ◌++◌, length, take, map, ◌∙◌, ap, refl, arith, length-append}
-use Rattle.std.proofs.lemmas.List.{take-append-le, take_all, length-map, length-set}
+use Rattle.std.proofs.lemmas.List.{take-append-le, take_all, length-map}
 use Rattle.std.specs.FinMap.{empty}
 use Rattle.std.specs.List.{fold}
 use Rattle.std.proofs.lemmas.List.Sums.{fold-append}
@@ -9,7 +9,7 @@ use Rattle.point_sets.specs.declared.revision.Revision.{Revision}
 use Rattle.operator_meaning.specs.Operators.{AreOperands}
 use Rattle.revision_judge.specs.Judging.{AreInputs as AreJudgedInputs, Judgement, Fit, Refused as RefusedFor, judged, settled, inputs_then, inputs_after, no_points}
 use Rattle.vtl_values.specs.Structures.{NamedStructures}
-use Rattle.revision_judge.proofs.Judgements.{inputs_after-fit}
+use Rattle.revision_judge.proofs.Judgements.{inputs_after-fit, then-long}
 use Rattle.transform_nodes.specs.Nodes.{AreInputs}
 use Rattle.checked_trees.specs.Scripts.{Script}
 use Rattle.round_journal.specs.declared.entry.Entry.{Entry}
@@ -23,11 +23,11 @@ use Rattle.round_journal.proofs.JournalLemmas.{after_all-append, of_legal}
 
 accepted_after-long : (rs : List Revision) (r : Revision) (v : Verdict) → length rs ≤ length (accepted_after rs r v)
 accepted_after-long rs r (Accepted n) = omega (arith, length-append rs (r ∷ []))
-accepted_after-long rs r (Refused set refusal) = omega arith
+accepted_after-long rs r (Refused set parts refusal) = omega arith
 
 take-accepted_after : (m : ℕ) (rs : List Revision) (r : Revision) (v : Verdict) → m ≤ length rs → take m (accepted_after rs r v) ≡ take m rs
 take-accepted_after m rs r (Accepted n) l = take-append-le m rs (r ∷ []) l
-take-accepted_after m rs r (Refused set refusal) l = refl
+take-accepted_after m rs r (Refused set parts refusal) l = refl
 
 pub accepted-after_what : (s : State) (n : ℕ) (w : What) → length s.accepted ≤ length (after_what s n w).accepted
 accepted-after_what s n (Judged r v) = accepted_after-long s.accepted r v
@@ -54,7 +54,7 @@ inputs_after-more structures rs r = fold-append (inputs_then structures) (no_poi
 
 -- a judged revision makes of the inputs what its judgement says
 judged_so : (structures : NamedStructures) (rs : List Revision) (r : Revision) (n : ℕ) (j : Judgement) → judged structures (inputs_after structures rs) r ≡ j → inputs_after structures (accepted_after rs r (verdict_for r n j)) ≡ settled (inputs_after structures rs) j
-judged_so structures rs r n (Fit k next) e = inputs_after-more structures rs r ∙ ap (settled (inputs_after structures rs)) e
+judged_so structures rs r n (Fit nexts) e = inputs_after-more structures rs r ∙ ap (settled (inputs_after structures rs)) e
 judged_so structures rs r n (RefusedFor refusal) e = refl
 
 pub inputs_now-judged : (c : Script) (s : State) (n : ℕ) (r : Revision) → inputs_now c (after_what s n (Judged r (verdict_on c s r))) ≡ settled (inputs_now c s) (judged c.inputs (inputs_now c s) r)
@@ -62,13 +62,9 @@ inputs_now-judged c s n r = judged_so c.inputs s.accepted r (length s.accepted +
 
 -- ---- one data set for each structure
 
-settled-long : (xs : List DataSet) (j : Judgement) → length (settled xs j) ≡ length xs
-settled-long xs (Fit n next) = length-set xs n next
-settled-long xs (RefusedFor refusal) = refl
-
 all_settled-long : (structures : NamedStructures) (xs : List DataSet) (rs : List Revision) → length (fold (inputs_then structures) xs rs) ≡ length xs
 all_settled-long structures xs [] = refl
-all_settled-long structures xs (r ∷ rs) = all_settled-long structures (inputs_then structures xs r) rs ∙ settled-long xs (judged structures xs r)
+all_settled-long structures xs (r ∷ rs) = all_settled-long structures (inputs_then structures xs r) rs ∙ then-long structures xs r
 
 pub inputs_after-long : (structures : NamedStructures) (rs : List Revision) → length (inputs_after structures rs) ≡ length structures
 inputs_after-long structures rs = all_settled-long structures (no_points structures) rs ∙ length-map structures (λ named. empty)

@@ -1,7 +1,8 @@
 -- Journals: what they say, and which are legal (docs/language.md, "Rounds").
-use Rattle.std.specs.Prelude.{◌≡◌, ◌≢◌, ◌+◌, ◌-◌, ◌*◌, ◌<◌, ◌⊎◌, ℕ, Bool, true, false, List, [], ◌∷◌, ◌++◌, Some, None, is_some, map, sum, take, length, if◌then◌else◌, ⊤}
+use Rattle.std.specs.Prelude.{◌≡◌, ◌≢◌, ◌+◌, ◌-◌, ◌*◌, ◌<◌, ◌⊎◌, ℕ, Bool, true, false, List, [], ◌∷◌, ◌++◌, Some, None, is_some, map, sum, take, length, slice_get, unwrap_or, option_map, if◌then◌else◌, ⊤}
 use Rattle.std.specs.List.{All}
 use Rattle.point_sets.specs.DataSets.{DataSet}
+use Rattle.point_sets.specs.declared.revision.Part.{Part}
 use Rattle.point_sets.specs.declared.revision.Revision.{Revision}
 use Rattle.revision_judge.specs.Judging.{Judgement, Fit, Refused as RefusedFor, judged, inputs_after}
 use Rattle.checked_trees.specs.declared.tree.Source.{Source}
@@ -48,13 +49,16 @@ pub record State : Type 0 where
 abbrev pub start : State
 start = record { accepted = []; fields = 0; base = 0; number = 0; published = 0; rounds = 0; running = false; dropped = false; spoiled = false; to = 0; status = λ _. Waiting; spent = 0; by = 0 }
 
--- the fields of all rows of a revision
+-- the fields of all rows of a part, and of all parts of a revision
+abbrev pub part_fields : Part → ℕ
+part_fields part = sum (map (λ row. length row.fields) part.rows)
+
 abbrev pub fields_of : Revision → ℕ
-fields_of r = sum (map (λ row. length row.fields) r.rows)
+fields_of r = sum (map part_fields r.parts)
 
 abbrev pub accepted_after : List Revision → Revision → Verdict → List Revision
 accepted_after rs r (Accepted n) = rs ++ r ∷ []
-accepted_after rs r (Refused set refusal) = rs
+accepted_after rs r (Refused set parts refusal) = rs
 
 -- one entry more
 abbrev pub after_what : State → ℕ → What → State
@@ -130,10 +134,14 @@ pub record Over (c : Script) (s : State) : Type 0 where
   pub none_ready : NoneReady c s
   pub none_out : NoneOut c s
 
+-- the name that the part with this number, from 1, gives its data set
+abbrev pub name_of_part : List Part → ℕ → List ℕ
+name_of_part parts n = unwrap_or (option_map (λ part. part.set) (slice_get parts (n - 1))) []
+
 -- what a verdict on a revision is
 abbrev pub verdict_for : Revision → ℕ → Judgement → Verdict
-verdict_for r receipt (Fit n next) = Accepted receipt
-verdict_for r receipt (RefusedFor refusal) = Refused r.set refusal
+verdict_for r receipt (Fit nexts) = Accepted receipt
+verdict_for r receipt (RefusedFor refusal) = Refused (name_of_part r.parts refusal.part) (length r.parts) refusal
 
 -- the verdict on the inputs of now; an accepted revision gets the next number from 1
 abbrev pub verdict_on : Script → State → Revision → Verdict

@@ -1,8 +1,8 @@
-use Rattle.revision_judge.proofs.Judgements.{told-number, told-fit, told-refused}
+use Rattle.revision_judge.proofs.ShareLemmas.{told-below, told-fit, told-refused}
 use Rattle.revision_judge.proofs.laws.answer_tells_the_inputs.Goals as goal
 
-pub returns-clause-number : goal.returns-clause-number
-returns-clause-number c = told-number
+pub returns-clause-below : goal.returns-clause-below
+returns-clause-below c = told-below
 
 pub returns-clause-fit : goal.returns-clause-fit
 returns-clause-fit c = told-fit

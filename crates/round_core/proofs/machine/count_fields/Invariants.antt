@@ -1,7 +1,8 @@
-use Rattle.std.proofs.Common.{◌≡◌, take, length, map}
+use Rattle.std.proofs.Common.{◌≡◌, take, map}
 use Rattle.std.specs.Prelude.{sum}
+use Rattle.round_journal.specs.Journals.{part_fields}
 use Rattle.round_core.specs.Answers.{told}
 use Rattle.round_core.proofs.machine.count_fields.Given as goal
 
-abbrev pub invariant-loop-row : goal.invariant-loop-row
-invariant-loop-row l = l.count ≡ told (sum (map (λ row. length row.fields) (take l.row-index l.rows)))
+abbrev pub invariant-loop-part : goal.invariant-loop-part
+invariant-loop-part l = l.count ≡ told (sum (map part_fields (take l.part-index l.parts)))
