@@ -31,7 +31,7 @@ all_fields [] = refl
 all_fields (block ∷ blocks) =
     let more = sum-map fields_of (map revision_of (block ∷ blocks)) ∙ sum_by-cons fields_of (revision_of block) (map revision_of blocks) in
     let same = sum-map fields_of (map revision_of blocks) in
-    let one = rows_fields block.rows in
+    let one : fields_of (revision_of block) ≡ 2 * length block.rows = omega (arith, rows_fields block.rows) in
     let rest = all_fields blocks in
     let count = sum_by-cons (λ (block : Block). length block.rows) block blocks in
     omega (arith, more, same, one, rest, count)

@@ -80,7 +80,7 @@ judged_first c p vs is count lines = subst (JudgedSo c [] vs) (sym is) (record {
 
 count_of : (before : List Revision) (r : Revision) (j : Judgement)
     → count_after (length before) (verdict_for r (length before + 1) j) ≡ length (accepted_after before r (verdict_for r (length before + 1) j))
-count_of before r (Fit n next) = sym (length-append before (r ∷ []))
+count_of before r (Fit nexts) = sym (length-append before (r ∷ []))
 count_of before r (RefusedFor refusal) = refl
 
 more_with : (c : Script) (rs : List Revision) (r : Revision) (vs ws : Verdicts) (p : Seen) (v : Verdict) → JudgedSo c rs vs p → v ≡ verdict_on c (state_in p) r

@@ -1,5 +1,5 @@
 -- The lines that the program writes of its own (docs/formats.md, "Output").
-use Rattle.std.specs.Prelude.{◌==◌, ℕ, List, [], ◌∷◌, ◌++◌, map, codes, decimal, encode_utf8_all, if◌then◌else◌}
+use Rattle.std.specs.Prelude.{◌==◌, ℕ, List, [], ◌∷◌, ◌++◌, map, codes, decimal, nat_le, encode_utf8_all, if◌then◌else◌}
 use Rattle.std.specs.Ffi.{without_last}
 use Rattle.point_sets.specs.declared.revision.RawField.{RawField}
 use Rattle.release_text.specs.Rows.{row}
@@ -35,26 +35,33 @@ accepted receipt = line (codes "accepted " ++ decimal receipt)
 abbrev pub key_text : List RawField → List ℕ
 key_text fields = without_last (row (map text_in fields))
 
--- behind `refused SET row R`: the key, but for row 0, and the cause's number
+-- behind the row of a refused revision: the key, but for row 0
 abbrev pub refusal_end : Refusal → List ℕ
 refusal_end refusal = if refusal.row == 0 then [] else codes " key " ++ key_text refusal.key
 
--- the line of a refused revision up to its row
-abbrev pub refused_at : List ℕ → ℕ → List ℕ
-refused_at set row = codes "refused " ++ (encode_utf8_all set ++ (codes " row " ++ decimal row))
+-- the line of a refused revision begins with the name of the refused part's data set
+abbrev pub refused_set : List ℕ → List ℕ
+refused_set set = codes "refused " ++ encode_utf8_all set
 
--- and its end, with the cause
+-- then comes the part, where there are several
+abbrev pub part_text : ℕ → ℕ → List ℕ
+part_text parts part = if nat_le parts 1 then [] else codes " part " ++ decimal part
+
+abbrev pub row_text : ℕ → List ℕ
+row_text row = codes " row " ++ decimal row
+
+-- and at its end the cause
 abbrev pub cause_end : ℕ → List ℕ
 cause_end cause = codes " cause " ++ line (decimal cause)
 
--- the verdict on a refused revision: the set, the row and its key, and the cause
-unfoldable pub refused : List ℕ → Refusal → List ℕ
-refused set refusal = refused_at set refusal.row ++ (refusal_end refusal ++ cause_end (number_of_cause refusal.cause))
+-- the verdict on a refused revision of so many parts: the set, the part, the row and its key, and the cause
+unfoldable pub refused : List ℕ → ℕ → Refusal → List ℕ
+refused set parts refusal = refused_set set ++ (part_text parts refusal.part ++ (row_text refusal.row ++ (refusal_end refusal ++ cause_end (number_of_cause refusal.cause))))
 
 -- the line of a verdict
 abbrev pub verdict_line : Verdict → List ℕ
 verdict_line (Accepted receipt) = accepted receipt
-verdict_line (Refused set refusal) = refused set refusal
+verdict_line (Refused set parts refusal) = refused set parts refusal
 
 -- a round that failed at a statement, up to the cause
 unfoldable pub failed_at : ℕ → List ℕ → ℕ → ℕ → List ℕ

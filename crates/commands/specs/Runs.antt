@@ -80,7 +80,7 @@ pub record IsFew (revisions : List Revision) : Type 0 where
 -- how many revisions were accepted after a verdict more
 abbrev pub count_after : ℕ → Verdict → ℕ
 count_after accepted (Accepted receipt) = receipt
-count_after accepted (Refused set refusal) = accepted
+count_after accepted (Refused set parts refusal) = accepted
 
 -- one revision more was judged, and its line stands behind those before
 pub record JudgesNext (old : Seen) (before : Verdicts) (r : Revision) (new : Seen) (behind : Verdicts) : Type 0 where

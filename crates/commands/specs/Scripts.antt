@@ -1,5 +1,7 @@
--- The stage of the script: its tokens, its tree, and what it stands for (docs/language.md; docs/formats.md, "Output").
-use Rattle.std.specs.Prelude.{ℕ, List, ◌++◌, Option, Some, None, Result, Ok, Err, codes, decimal, encode_utf8_all}
+-- The stages of the script: its tokens, its tree, the tree with its defined operators written out, and what that stands
+-- for (docs/language.md; docs/formats.md, "Output").
+use Rattle.std.specs.Prelude.{ℕ, List, [], ◌∷◌, ◌++◌, Option, Some, None, Result, Ok, Err, codes, decimal, encode_utf8_all}
+use Rattle.std.specs.List.{flat_map}
 use Rattle.vtl_values.specs.declared.place.Place.{Place}
 use Rattle.vtl_tokens.specs.Keywords.{word_of}
 use Rattle.vtl_syntax.specs.declared.script.Script as tree
@@ -9,6 +11,10 @@ use Rattle.vtl_lexer.specs.declared.stop.LexFault.{LexFault}
 use Rattle.vtl_lexer.specs.declared.stop.LexFault.TheVariants.{BadByte, OpenString, OpenComment, NumberTooLong}
 use Rattle.vtl_lexer.specs.Texts.{Lexed, tokens_of}
 use Rattle.vtl_parser.specs.Parses.{answered}
+use Rattle.operator_faults.specs.declared.fault.OperatorFault.{OperatorFault}
+use Rattle.operator_faults.specs.declared.fault.OperatorFault.TheVariants as wrong
+use Rattle.operator_faults.specs.declared.fault.PlacedFault.{PlacedFault}
+use Rattle.defined_operators.specs.Expanded.{expanded}
 use Rattle.checked_trees.specs.Scripts.{Script}
 use Rattle.plain_scripts.specs.Scripts.{plain_script}
 use Rattle.commands.specs.Stages.{Answer, Stage, after}
@@ -31,6 +37,32 @@ fault_line TooDeep = codes "TooDeep\n"
 fault_line (LeftOut word) = left_out (word_of word)
 fault_line TooMany = codes "TooMany\n"
 
+-- a fault with a name
+abbrev pub named_line : List ℕ → List ℕ → List ℕ
+named_line told name = line (told ++ encode_utf8_all name)
+
+abbrev pub after_comma : List ℕ → List ℕ
+after_comma name = codes "," ++ encode_utf8_all name
+
+-- names with commas between them
+abbrev pub with_commas : List (List ℕ) → List ℕ
+with_commas [] = []
+with_commas (first ∷ others) = encode_utf8_all first ++ flat_map after_comma others
+
+abbrev pub recursion_line : List (List ℕ) → List ℕ
+recursion_line names = line (codes "Recursion " ++ with_commas names)
+
+abbrev pub operator_line : OperatorFault → List ℕ
+operator_line (wrong.DefinedTwice name) = named_line (codes "DefinedTwice ") name
+operator_line (wrong.ParameterTwice name) = named_line (codes "ParameterTwice ") name
+operator_line (wrong.UnknownOperator name) = named_line (codes "UnknownOperator ") name
+operator_line wrong.ArgumentCount = codes "ArgumentCount\n"
+operator_line (wrong.FreeName name) = named_line (codes "FreeName ") name
+operator_line (wrong.Recursion names) = recursion_line names
+operator_line wrong.ArgumentSort = codes "ArgumentSort\n"
+operator_line wrong.WrittenTooDeep = codes "WrittenTooDeep\n"
+operator_line wrong.WrittenTooMany = codes "WrittenTooMany\n"
+
 -- the line of a script that is refused, up to the fault
 abbrev pub refused_at : Place → List ℕ
 refused_at place = codes "script " ++ (decimal place.line ++ (codes " " ++ (decimal place.column ++ codes " ")))
@@ -49,11 +81,20 @@ abbrev pub told_tree : Result tree.Script (Fault × Place) → Stage tree.Script
 told_tree (Ok script) = Ok script
 told_tree (Err fault) = Err (refused_script fault.1 (fault_line fault.0))
 
+-- the script that is written out
+abbrev pub told_written : Result tree.Script PlacedFault → Stage tree.Script
+told_written (Ok script) = Ok script
+told_written (Err placed) = Err (refused_script placed.place (operator_line placed.fault))
+
 -- what is built of it
 abbrev pub told_plain : Option Script → Stage Script
 told_plain None = Err not_built
 told_plain (Some script) = Ok script
 
+-- what a tree stands for
+abbrev pub checked : tree.Script → Stage Script
+checked tree = after (told_written (expanded tree)) (λ written. told_plain (plain_script written))
+
 -- the checked script of a text
 abbrev pub script_of : List ℕ → Stage Script
-script_of text = after (told_tokens (tokens_of text)) (λ tokens. after (told_tree (answered tokens)) (λ tree. told_plain (plain_script tree)))
+script_of text = after (told_tokens (tokens_of text)) (λ tokens. after (told_tree (answered tokens)) checked)

@@ -131,8 +131,9 @@ pub fn eval<R: Threads + Sync>(
 {
     let mut production = new_production(alloc, script)?;
     let verdicts = judge_revisions(alloc, &mut production, revisions)?;
-    // Called for what their clauses say of the production: its statements are few, and its journal is legal.
+    // Called for its clause: the statements are few.
     let _ = production.script().statements();
+    // Called for its clause: the journal is legal.
     let _ = production.journal();
     let round = run_whole(rt, alloc, &mut production, 0)?;
     // Again, after the round.

@@ -8,6 +8,7 @@ pub mod call;
 pub mod eval;
 pub mod forms;
 pub mod lines;
+mod operators;
 pub mod reading;
 pub mod round;
 pub mod script;

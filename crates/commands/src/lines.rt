@@ -24,7 +24,11 @@ pub fn verdict_line(alloc: Global, verdict: &Verdict) -> Result<Vec<u8>, AllocEr
 {
     match verdict {
         Verdict::Accepted(receipt) => accepted_line(alloc, *receipt),
-        Verdict::Refused { set, refusal } => refused_line(alloc, set, refusal),
+        Verdict::Refused {
+            set,
+            parts,
+            refusal,
+        } => refused_line(alloc, set, *parts, refusal),
     }
 }
 
@@ -69,12 +73,27 @@ fn refusal_end(alloc: Global, refusal: &Refusal) -> Result<Vec<u8>, AllocError>
     Ok(text)
 }
 
-// The line up to the row.
-fn refused_at(alloc: Global, set: &Word, row: u64) -> Result<String, AllocError>
-    ensures { IfOk result (λ text. string_bytes text ≡ meant.refused_at set.now row) }
+fn refused_set(alloc: Global, set: &Word) -> Result<String, AllocError>
+    ensures { IfOk result (λ text. string_bytes text ≡ meant.refused_set set.now) }
 {
     let set = set.as_str();
-    format!(in alloc; "refused {set} row {row}")
+    format!(in alloc; "refused {set}")
+}
+
+// The part of a refused revision, where there are several.
+fn part_text(alloc: Global, parts: u64, part: u64) -> Result<String, AllocError>
+    ensures { IfOk result (λ text. string_bytes text ≡ meant.part_text parts part) }
+{
+    if parts <= 1 {
+        return Ok(String::new(alloc));
+    }
+    format!(in alloc; " part {part}")
+}
+
+fn row_text(alloc: Global, row: u64) -> Result<String, AllocError>
+    ensures { IfOk result (λ text. string_bytes text ≡ meant.row_text row) }
+{
+    format!(in alloc; " row {row}")
 }
 
 fn cause_end(alloc: Global, cause: u8) -> Result<String, AllocError>
@@ -83,10 +102,17 @@ fn cause_end(alloc: Global, cause: u8) -> Result<String, AllocError>
     format!(in alloc; " cause {cause}\n")
 }
 
-fn refused_line(alloc: Global, set: &Word, refusal: &Refusal) -> Result<Vec<u8>, AllocError>
-    ensures { IfOk result (λ text. text.items ≡ refused set.now refusal.now) }
+fn refused_line(
+    alloc: Global,
+    set: &Word,
+    parts: u64,
+    refusal: &Refusal,
+) -> Result<Vec<u8>, AllocError>
+    ensures { IfOk result (λ text. text.items ≡ refused set.now parts refusal.now) }
 {
-    let mut line = refused_at(alloc, set, refusal.row)?.into_bytes();
+    let mut line = refused_set(alloc, set)?.into_bytes();
+    line.extend_from_slice(part_text(alloc, parts, refusal.part)?.as_bytes())?;
+    line.extend_from_slice(row_text(alloc, refusal.row)?.as_bytes())?;
     line.extend_from_slice(refusal_end(alloc, refusal)?.as_slice())?;
     line.extend_from_slice(cause_end(alloc, refusal.cause.number())?.as_bytes())?;
     Ok(line)

@@ -33,10 +33,11 @@ fn run_next<R: Threads + Sync, L: Ledger>(
     requires sync { IsSync R.row }
     ensures { GivesNext production.old by result production.new }
 {
-    // Called for its clause, that the journal is legal, before and after.
+    // Called for its clause: the journal is legal.
     let _ = production.journal();
     let work = production.claim(by).unwrap();
     let given = production.give(by, work.run(rt, alloc, steps));
+    // Again, after the round's step.
     let _ = production.journal();
     given
 }

@@ -1,4 +1,4 @@
-// The stage of the script.
+// The stages of the script.
 ghost use Rattle.std.specs.Prelude.{◌≡◌, ◌≤◌, ◌++◌, length, string_bytes, IfOk, IfErr, Ok};
 ghost use Rattle.vtl_tokens.specs.Keywords.{word_of};
 ghost use Rattle.vtl_parser.specs.Parses.{answered, fault_of, IsEnded};
@@ -6,6 +6,7 @@ ghost use Rattle.vtl_lexer.specs.Texts.{tokens_of};
 ghost use Rattle.commands.specs.Ends.{Gives, IsRefusal, Refuses};
 ghost use Rattle.commands.specs.Scripts.{lex_line, fault_line, left_out, refused_at, refused_script, told_tokens, told_tree, script_of};
 
+use crate::operators::written_out;
 use crate::reading::SCRIPT_LIMIT;
 use crate::stop::{Ending, Stop};
 use crate::words::not_built;
@@ -18,7 +19,8 @@ use vtl_syntax::Script;
 use vtl_tokens::{Keyword, Token};
 use vtl_values::Place;
 
-/// The checked script of a text: its tokens are read, then the tree that they are, and then what this stands for.
+/// The checked script of a text: its tokens are read, then the tree that they are; its defined operators are written
+/// out; and then it is told what this stands for.
 pub fn checked_script(alloc: Global, text: &[u8]) -> Result<CheckedScript, Stop>
     requires { length text.now ≤ SCRIPT_LIMIT }
     ensures go { IfOk result (λ script. script_of text.now ≡ Ok script) }
@@ -27,7 +29,8 @@ pub fn checked_script(alloc: Global, text: &[u8]) -> Result<CheckedScript, Stop>
 {
     let tokens = read_tokens(alloc, text)?;
     let script = read_tree(alloc, tokens.as_slice())?;
-    match check_plain(alloc, &script)? {
+    let written = written_out(alloc, &script)?;
+    match check_plain(alloc, &written)? {
         Some(checked) => Ok(checked),
         None => Err(not_built(alloc)),
     }
@@ -66,7 +69,7 @@ fn read_tree(alloc: Global, tokens: &[Token]) -> Result<Script, Stop>
 }
 
 // The end with the line of a script that is refused.
-fn refused(alloc: Global, place: Place, fault: &[u8]) -> Stop
+pub(crate) fn refused(alloc: Global, place: Place, fault: &[u8]) -> Stop
     ensures gives { Gives result (refused_script place fault.now) }
     ensures kind { IsRefusal result }
 {

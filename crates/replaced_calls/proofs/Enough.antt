@@ -1,5 +1,5 @@
 -- Where no operator reaches its own call, no more calls stand inside each other than there are operators.
-use Rattle.std.proofs.Common.{◌≡◌, ◌⊎◌, inl, inr, ℕ, zero, suc, ◌+◌, ◌<◌, Bool, true, false, ◌||◌, ◌==◌, if◌then◌else◌, cond, List, [], ◌∷◌, ◌++◌, Option, Some, None, map, length, refl, sym, ap, ◌∙◌, subst, arith}
+use Rattle.std.proofs.Common.{◌≡◌, inl, inr, ℕ, zero, suc, ◌<◌, Bool, true, false, ◌||◌, ◌==◌, if◌then◌else◌, cond, List, [], ◌∷◌, ◌++◌, Option, Some, None, map, length, refl, sym, ap, ◌∙◌, subst, arith}
 use Rattle.std.specs.Prelude.{slice_get, unwrap_or}
 use Rattle.std.specs.List.{position_or_len}
 use Rattle.std.specs.Option.{option_map}
@@ -121,7 +121,7 @@ graph-length os = length-map (map of_operator os) (λ o. put_sites os [] (sites 
 level_none : (os : List DefinedOperator) (n : ℕ) (w : List ℕ) (as' : List Expr) (p : Place) → operator_of os w ≡ None → opened os (suc n) w as' p ≡ opened os n w as' p
 level_none os n w as' p none = opened-none os (suc n) w as' p none ∙ sym (opened-none os n w as' p none)
 
-by_found : (os : List DefinedOperator) (w : List ℕ) (T : Type 0) → (o : Option DefinedOperator) → operator_of os w ≡ o → (operator_of os w ≡ None → T) → ((x : DefinedOperator) → operator_of os w ≡ Some x → T) → T
+pub by_found : (os : List DefinedOperator) (w : List ℕ) (T : Type 0) → (o : Option DefinedOperator) → operator_of os w ≡ o → (operator_of os w ≡ None → T) → ((x : DefinedOperator) → operator_of os w ≡ Some x → T) → T
 by_found os w T None is none some = none is
 by_found os w T (Some x) is none some = some x is
 

@@ -1,7 +1,13 @@
 pub mod Alike
+pub mod Chains
 pub mod Enough
+pub mod Faultless
+pub mod Fresh
 pub mod Gone
 pub mod Lines
 pub mod Only
+pub mod ScriptChains
+pub mod ScriptMaps
+pub mod ScriptsReached
 pub mod Sorted
 pub mod Written

@@ -4,7 +4,6 @@ use Rattle.std.specs.Prelude.{slice_get, unwrap_or}
 use Rattle.std.specs.Option.{option_map}
 use Rattle.vtl_values.specs.declared.place.Place.{Place}
 use Rattle.vtl_syntax.specs.declared.words.Sort.{Sort}
-use Rattle.vtl_syntax.specs.declared.words.Sort.TheVariants as sort
 use Rattle.vtl_syntax.specs.declared.expr.Expr.TheVariants as tree
 use Rattle.vtl_syntax.specs.declared.expr.Clause.TheOpen.{Expr-F}
 use Rattle.vtl_syntax.specs.declared.expr.Clause.{Clause, roll-Clause}

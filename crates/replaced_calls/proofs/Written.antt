@@ -21,7 +21,7 @@ use Rattle.operator_faults.specs.Calls.{operator_of}
 use Rattle.tree_copies.specs.Made.{Names, Calls, made_step, made, same_name, same_call}
 use Rattle.tree_copies.proofs.Fused.{fused}
 use Rattle.replaced_calls.specs.Replacing.{bound, opened, written}
-use Rattle.replaced_calls.specs.Steps.{IsStep, IsChain, IsWithoutCalls, body_for, put_in, with_put}
+use Rattle.replaced_calls.specs.Steps.{IsStep, IsChain, body_for, put_in, with_put}
 use Rattle.replaced_calls.specs.Laws.{WritingsAdd, IsEnough, OrdersAgree}
 
 -- ---- what is made of a name and of a call
@@ -110,7 +110,7 @@ written-put os n around hole e = fused same_name (put_in hole e) (put_in hole (w
     (λ w as' p. written-call os n w as' p)
     around
 
-step_keeps : (os : List DefinedOperator) (n : ℕ) → IsEnough os n → (a b : Expr) → IsStep os a b → written os n a ≡ written os n b
+pub step_keeps : (os : List DefinedOperator) (n : ℕ) → IsEnough os n → (a b : Expr) → IsStep os a b → written os n a ≡ written os n b
 step_keeps os n enough a b s =
     ap (written os n) s.call ∙ written-put os n s.around s.hole (tree.CallOf s.name s.arguments s.place)
     ∙ ap (λ (x : Expr). made (put_in s.hole x) (opened os n) s.around) (sym (body-opens os n enough s.name s.arguments s.place s.operator s.found))

@@ -41,3 +41,7 @@ AllKnown operators e = find (is_wrong Unknown operators) (sites (outlined e)) �
 abbrev pub NoneLeft : Type 0
 NoneLeft = (operators : List DefinedOperator) → first_cycle (graph operators) ≡ None → ((w : List ℕ) (o : DefinedOperator) → operator_of operators w ≡ Some o → AllKnown operators o.body)
     → (e : Expr) → AllKnown operators e → IsWithoutCalls (written (sorted_operators operators) (length operators) (sorted operators e))
+
+-- an expression's calls can be replaced one after the other, to what is written of it
+abbrev pub ChainsExist : Type 0
+ChainsExist = (operators : List DefinedOperator) (n : ℕ) (e : Expr) → (later : List Expr) × IsChain operators e later (written operators n e)

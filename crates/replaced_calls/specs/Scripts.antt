@@ -1,5 +1,5 @@
 -- The written-out script: it has no defined operators, and no calls of them.
-use Rattle.std.specs.Prelude.{ℕ, List, [], Option, map, length}
+use Rattle.std.specs.Prelude.{List, [], map, length}
 use Rattle.std.specs.Option.{option_map}
 use Rattle.vtl_syntax.specs.declared.expr.Expr.{Expr}
 use Rattle.vtl_syntax.specs.declared.operator.DefinedOperator.{DefinedOperator}

@@ -1,0 +1,6 @@
+pub mod Answered
+pub mod Joins
+pub mod Sorting
+pub mod Standing
+pub mod Unused
+pub mod Weights

@@ -1,0 +1,5 @@
+pub mod Callings
+pub mod Expanded
+pub mod Joins
+pub mod Uses
+pub mod Writers

@@ -1,0 +1,14 @@
+pub mod Capping
+pub mod Exact
+pub mod Folds
+pub mod Forms
+pub mod Linear
+pub mod Numbers
+pub mod Opened
+pub mod Outlining
+pub mod SeenLemmas
+pub mod Shares
+pub mod SizeLemmas
+pub mod Sizing
+pub mod Telling
+pub mod Writing
