@@ -1,0 +1,81 @@
+// Callers that claim a statement, work it out and give it back.
+ghost use Rattle.std.specs.Prelude.{◌≡◌, ◌<◌};
+ghost use Rattle.checked_trees.specs.Scripts.{Script};
+ghost use Rattle.transform_nodes.specs.Nodes.{CanRun};
+ghost use Rattle.round_journal.specs.Journals.{State};
+ghost use Rattle.round_journal.specs.Stands.{WorkStands, DoneStands};
+
+use data_model::steps::Steps;
+use point_sets::Revision;
+use round_core::{ClaimStop, Given, Production, SubmitStop};
+use round_journal::Verdict;
+use std::alloc::Global;
+use std::marker::{Brand, Sync};
+use std::sync::ledger::{Blank, Ledger};
+use std::thread::Threads;
+use transform_nodes::{Done, Work};
+
+/// Why a turn came to nothing.
+#[derive(Debug, Drop)]
+pub enum TurnStop {
+    Claim(ClaimStop),
+    Submit(SubmitStop),
+    Unexpected,
+}
+
+impl From<ClaimStop> for TurnStop {
+    fn from(stop: ClaimStop) -> Self {
+        TurnStop::Claim(stop)
+    }
+}
+
+impl From<SubmitStop> for TurnStop {
+    fn from(stop: SubmitStop) -> Self {
+        TurnStop::Submit(stop)
+    }
+}
+
+// Runs a work whose steps nobody counts.
+fn run_work<R: Threads + Sync, L: Ledger>(rt: &R, alloc: Global, blank: Blank, work: Work) -> Done
+    requires stands { CanRun work }
+    requires name { blank.name ≡ L.name }
+    requires parts { (blank.parts ≡ L.parts) × (0 < L.parts) }
+    ensures statement { result.statement ≡ work.statement }
+    ensures stands { (script : Script) (state : State) → WorkStands script state work → DoneStands script state result }
+{
+    let mut steps = Steps::<L>::new(blank);
+    work.run(rt, alloc, &mut steps)
+}
+
+/// A caller claims a statement, runs it and gives it back.
+pub fn take_turn<R: Threads + Sync>(
+    rt: &R,
+    alloc: Global,
+    production: &mut Production,
+    by: u64,
+) -> Result<Given, TurnStop> {
+    let work = production.claim(by)?;
+    let done = run_work::<R, Brand>(rt, alloc, Blank::new(1), work);
+    Ok(production.give(by, done))
+}
+
+/// The same. While the statement is out another caller finds none that is ready, and a third one's revision is judged.
+pub fn take_turn_with_news<R: Threads + Sync>(
+    rt: &R,
+    alloc: Global,
+    production: &mut Production,
+    by: u64,
+    news: Revision,
+) -> Result<Given, TurnStop> {
+    let work = production.claim(by)?;
+    let Err(ClaimStop::NoneReady { out: 1 }) = production.claim(2) else {
+        return Err(TurnStop::Unexpected);
+    };
+    let Verdict::Accepted(2) = production.judge_one(3, news)? else {
+        return Err(TurnStop::Unexpected);
+    };
+    // Called for its clause, that the journal is legal.
+    let _ = production.journal();
+    let done = run_work::<R, Brand>(rt, alloc, Blank::new(1), work);
+    Ok(production.give(by, done))
+}
