@@ -1,5 +1,5 @@
 -- What is written of a value.
-use Rattle.std.proofs.Common.{◌≡◌, ℕ, ◌/◌, ◌%◌, ◌<◌, ◌^◌, true, false, if◌then◌else◌, List, [], ◌∷◌, ◌++◌, Result, IfOk, OnOk, ℤ, pos, negsuc, nat_abs, decimal, codes, refl, sym, ap, subst, ◌∙◌, arith, append_assoc}
+use Rattle.std.proofs.Common.{◌≡◌, ℕ, ◌/◌, ◌%◌, ◌<◌, ◌^◌, true, false, if◌then◌else◌, List, [], ◌∷◌, ◌++◌, Result, OnOk, ℤ, pos, negsuc, nat_abs, decimal, codes, refl, sym, ap, subst, ◌∙◌, arith, append_assoc}
 use Rattle.std.proofs.Math.Utf8.{encode}
 use Rattle.std.proofs.lemmas.Fmt.{decimal_is_IsNumeral_wide, IsAscii-signed}
 use Rattle.std.proofs.lemmas.Bool.Decides.{nat_tests}
@@ -18,9 +18,6 @@ use Rattle.vtl_values.proofs.Digits.{test-from_AllDigits}
 use Rattle.vtl_values.proofs.Fractions.{all-fraction_digits, rest-lt, fraction_digits-suc}
 
 -- an answer by an equal text
-pub instead : (r : Result (List ℕ) AllocError) (a b : List ℕ) → a ≡ b → IfOk r (λ word. word ≡ a) → IfOk r (λ word. word ≡ b)
-instead r a b same given = subst (λ x. IfOk r (λ word. word ≡ x)) same given
-
 pub instead_on : (r : Result (Unit {0}) AllocError) (after a b : List ℕ) → a ≡ b → OnOk r (after ≡ a) → OnOk r (after ≡ b)
 instead_on r after a b same given = subst (λ x. OnOk r (after ≡ x)) same given
 

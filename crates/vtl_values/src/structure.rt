@@ -17,18 +17,6 @@ pub enum Codes {
     Listed(CodeList),
 }
 
-impl Codes {
-    /// An equal code list, or want of memory.
-    pub fn copy(&self) -> Result<Codes, AllocError>
-        ensures { IfOk result (λ codes. codes ≡ self.now) }
-    {
-        match self {
-            Codes::Any => Ok(Codes::Any),
-            Codes::Listed(codes) => Ok(Codes::Listed(codes.copy()?)),
-        }
-    }
-}
-
 /// A column of a data set.
 #[derive(Debug, Drop)]
 pub struct Component {
@@ -36,20 +24,6 @@ pub struct Component {
     pub role: Role,
     pub kind: Kind,
     pub codes: Codes,
-}
-
-impl Component {
-    /// An equal component, or want of memory.
-    pub fn copy(&self) -> Result<Component, AllocError>
-        ensures { IfOk result (λ component. component ≡ self.now) }
-    {
-        Ok(Component {
-            name: self.name.copy()?,
-            role: self.role,
-            kind: self.kind,
-            codes: self.codes.copy()?,
-        })
-    }
 }
 
 /// The components of a data set in their order: identifiers, measures, attributes, viral attributes. Contracts see it
