@@ -5,3 +5,5 @@ pub mod Scripts
 pub mod Parses
 pub mod RuleParts
 pub mod Nested
+pub mod Operands
+pub mod Checks

@@ -8,6 +8,7 @@ ghost use Rattle.vtl_cursor.specs.Limits.{limits};
 ghost use Rattle.vtl_cursor.specs.Plain.{read_plain};
 ghost use Rattle.vtl_grammar.specs.Words.{mark_of};
 ghost use Rattle.vtl_cursor.specs.Views.{GivesDeep, ShowsDeep};
+ghost use Rattle.vtl_parser.specs.Checks.{check_parts, check_parts_of};
 ghost use Rattle.vtl_parser.specs.Forms.{window_of, read_form, one_form, two_form};
 ghost use Rattle.vtl_parser.specs.Nested.{ReadsBelow};
 
@@ -19,10 +20,19 @@ use std::alloc::Global;
 use vtl_cursor::components::grouping;
 use vtl_cursor::windows::over;
 use vtl_cursor::{Cursor, Mark, Stop, optional_choice};
-use vtl_syntax::words::{AggregateFunction, SetFunction};
+use vtl_syntax::words::{AggregateFunction, CheckOutput, SetFunction};
 use vtl_syntax::{Expr, Groups, SubstrRange};
 use vtl_tokens::{Keyword, Sign};
-use vtl_values::Place;
+use vtl_values::{Integer, Place, Word};
+
+/// What a check says beside its operand.
+#[derive(Drop)]
+pub struct CheckParts {
+    pub code: Option<Word>,
+    pub level: Option<Integer>,
+    pub imbalance: Option<Boxed<Expr>>,
+    pub output: Option<CheckOutput>,
+}
 
 impl<F: Fn(Global, &mut Cursor<'_>, u8, u8) -> Result<(Boxed<Expr>, u8), Stop> + Copy> Parser<F> {
     /// The rest of a call of one operand, after its word.
@@ -255,19 +265,34 @@ impl<F: Fn(Global, &mut Cursor<'_>, u8, u8) -> Result<(Boxed<Expr>, u8), Stop> +
     {
         cursor.sign(Sign::LeftParen)?;
         let (operand, in_operand) = self.operand(cursor, 0)?;
-        let code = code(cursor)?;
-        let level = level(cursor)?;
-        let (imbalance, in_imbalance) = self.after(cursor, Mark::Word(Keyword::Imbalance))?;
-        let output = optional_choice(cursor);
-        cursor.sign(Sign::RightParen)?;
+        let (parts, in_parts) = self.check_parts(cursor)?;
         let expr = Expr::Check {
             operand,
+            code: parts.code,
+            level: parts.level,
+            imbalance: parts.imbalance,
+            output: parts.output,
+            place,
+        };
+        Ok((Boxed::new(self.alloc, expr)?, in_operand.max(in_parts)))
+    }
+
+    /// What a check says beside its operand, and the bracket after it.
+    fn check_parts(&self, cursor: &mut Cursor<'_>) -> Result<(CheckParts, u8), Stop>
+        requires { ReadsBelow self.now.depth (F.pre self.now.expression) (F.post self.now.expression) }
+        ensures { ShowsDeep check_parts_of cursor.new.tokens.now result (read_plain limits (below limits self.now.depth) check_parts cursor.old.tokens.now) }
+    {
+        let code = code(cursor)?;
+        let level = level(cursor)?;
+        let (imbalance, levels) = self.after(cursor, Mark::Word(Keyword::Imbalance))?;
+        let output = optional_choice(cursor);
+        cursor.sign(Sign::RightParen)?;
+        let parts = CheckParts {
             code,
             level,
             imbalance,
             output,
-            place,
         };
-        Ok((Boxed::new(self.alloc, expr)?, in_operand.max(in_imbalance)))
+        Ok((parts, levels))
     }
 }

@@ -8,12 +8,12 @@ ghost use Rattle.vtl_cursor.specs.Limits.{limits};
 ghost use Rattle.vtl_cursor.specs.Plain.{read_plain};
 ghost use Rattle.vtl_cursor.specs.Views.{GivesDeep, ShowsDeep};
 ghost use Rattle.vtl_parser.specs.Forms.{read_form};
-ghost use Rattle.vtl_parser.specs.Joins.{join_part_of, clauses_of};
+ghost use Rattle.vtl_parser.specs.Joins.{join_part_of, last_clauses, last_clauses_of, clauses_of, join_rest, join_rest_of, whole_join, whole_join_of};
 ghost use Rattle.vtl_parser.specs.Nested.{ReadsBelow};
 
 use crate::parser::{ListItem, Parser};
 use crate::plain_clause::{kept_clause, rename_clause};
-use sqlite_items::Boxed;
+use sqlite_items::{Boxed, Items};
 use std::alloc::Global;
 use vtl_cursor::outputs::alias;
 use vtl_cursor::{Cursor, Kind, Stop};
@@ -51,33 +51,50 @@ impl<F: Fn(Global, &mut Cursor<'_>, u8, u8) -> Result<(Boxed<Expr>, u8), Stop> +
         requires { ReadsBelow self.now.depth (F.pre self.now.expression) (F.post self.now.expression) }
         ensures { GivesDeep cursor.new.tokens.now result (read_form limits (below limits self.now.depth) (join function) place cursor.old.tokens.now) }
     {
-        cursor.sign(Sign::LeftParen)?;
-        let (first, in_first) = JoinOperand::parse(self, cursor)?;
-        let first = Boxed::new(self.alloc, first)?;
-        cursor.sign(Sign::Comma)?;
-        let (second, in_second) = JoinOperand::parse(self, cursor)?;
-        let second = Boxed::new(self.alloc, second)?;
-        let (others, in_others) = self.other_operands::<JoinOperand>(cursor)?;
-        let (clauses, in_clauses) = self.join_clauses(cursor)?;
-        let JoinClauses {
-            filter,
-            calc,
-            keep,
-            rename,
-        } = clauses;
+        let ((first, ((second, others), clauses)), levels) = self.join_parts::<JoinOperand>(
+            cursor,
+        )?;
         let expr = Expr::Join {
             function,
             first,
             second,
             others,
-            filter,
-            calc,
-            keep,
-            rename,
+            filter: clauses.filter,
+            calc: clauses.calc,
+            keep: clauses.keep,
+            rename: clauses.rename,
             place,
         };
-        let levels = in_first.max(in_second.max(in_others.max(in_clauses)));
         Ok((Boxed::new(self.alloc, expr)?, levels))
+    }
+
+    /// The operands of a join and its clauses.
+    fn join_parts<T: ListItem>(
+        &self,
+        cursor: &mut Cursor<'_>,
+    ) -> Result<((Boxed<T>, ((Boxed<T>, Items<T>), JoinClauses)), u8), Stop>
+        requires { ReadsBelow self.now.depth (F.pre self.now.expression) (F.post self.now.expression) }
+        ensures { ShowsDeep (whole_join_of T.rule T.of) cursor.new.tokens.now result (read_plain limits (below limits self.now.depth) (whole_join T.rule) cursor.old.tokens.now) }
+    {
+        cursor.sign(Sign::LeftParen)?;
+        let (first, in_first) = T::parse(self, cursor)?;
+        let first = Boxed::new(self.alloc, first)?;
+        cursor.sign(Sign::Comma)?;
+        let (rest, in_rest) = self.join_rest::<T>(cursor)?;
+        Ok(((first, rest), in_first.max(in_rest)))
+    }
+
+    /// The operands of a join after the first, and its clauses.
+    fn join_rest<T: ListItem>(
+        &self,
+        cursor: &mut Cursor<'_>,
+    ) -> Result<(((Boxed<T>, Items<T>), JoinClauses), u8), Stop>
+        requires { ReadsBelow self.now.depth (F.pre self.now.expression) (F.post self.now.expression) }
+        ensures { ShowsDeep (join_rest_of T.rule T.of) cursor.new.tokens.now result (read_plain limits (below limits self.now.depth) (join_rest T.rule) cursor.old.tokens.now) }
+    {
+        let (operands, in_operands) = self.first_and_others::<T>(cursor)?;
+        let (clauses, in_clauses) = self.join_clauses(cursor)?;
+        Ok(((operands, clauses), in_operands.max(in_clauses)))
     }
 
     /// The clauses, and the bracket after them.
@@ -87,16 +104,28 @@ impl<F: Fn(Global, &mut Cursor<'_>, u8, u8) -> Result<(Boxed<Expr>, u8), Stop> +
     {
         let (filter, in_filter) = self.maybe_clause(cursor, JoinPart::Filter)?;
         let (calc, in_calc) = self.maybe_clause(cursor, JoinPart::Calc)?;
-        let (keep, in_keep) = self.maybe_clause(cursor, JoinPart::Keep)?;
-        let (rename, in_rename) = self.maybe_clause(cursor, JoinPart::Rename)?;
-        cursor.sign(Sign::RightParen)?;
+        let ((keep, rename), in_last) = self.last_clauses(cursor)?;
         let clauses = JoinClauses {
             filter,
             calc,
             keep,
             rename,
         };
-        Ok((clauses, in_filter.max(in_calc.max(in_keep.max(in_rename)))))
+        Ok((clauses, in_filter.max(in_calc.max(in_last))))
+    }
+
+    /// The last two of the clauses, and the bracket after them.
+    fn last_clauses(
+        &self,
+        cursor: &mut Cursor<'_>,
+    ) -> Result<((Option<Boxed<Clause>>, Option<Boxed<Clause>>), u8), Stop>
+        requires { ReadsBelow self.now.depth (F.pre self.now.expression) (F.post self.now.expression) }
+        ensures { ShowsDeep last_clauses_of cursor.new.tokens.now result (read_plain limits (below limits self.now.depth) last_clauses cursor.old.tokens.now) }
+    {
+        let (keep, in_keep) = self.maybe_clause(cursor, JoinPart::Keep)?;
+        let (rename, in_rename) = self.maybe_clause(cursor, JoinPart::Rename)?;
+        cursor.sign(Sign::RightParen)?;
+        Ok(((keep, rename), in_keep.max(in_rename)))
     }
 
     /// A clause in its place, or none. It is one level further in.

@@ -7,6 +7,7 @@ ghost use Rattle.vtl_cursor.specs.Lists.{after, others};
 ghost use Rattle.vtl_cursor.specs.Plain.{read_plain};
 ghost use Rattle.vtl_cursor.specs.Views.{GivesDeep, ShowsDeep, joined, limit_of};
 ghost use Rattle.vtl_parser.specs.Nested.{ReadsBelow};
+ghost use Rattle.vtl_parser.specs.Operands.{first_and_others_of};
 
 use sqlite_items::{Boxed, Items};
 use std::alloc::Global;
@@ -72,6 +73,20 @@ impl<F: Fn(Global, &mut Cursor<'_>, u8, u8) -> Result<(Boxed<Expr>, u8), Stop> +
         let mut items = Items::new(self.alloc);
         items.push(first)?;
         self.more(cursor, separator, limit, items, levels)
+    }
+
+    /// An operand, and as many others as there may be, with a comma before each.
+    pub fn first_and_others<T: ListItem>(
+        &self,
+        cursor: &mut Cursor<'_>,
+    ) -> Result<((Boxed<T>, Items<T>), u8), Stop>
+        requires { ReadsBelow self.now.depth (F.pre self.now.expression) (F.post self.now.expression) }
+        ensures { ShowsDeep (first_and_others_of T.of) cursor.new.tokens.now result (read_plain limits (below limits self.now.depth) (repeated operands T.rule (comma ▸ T.rule)) cursor.old.tokens.now) }
+    {
+        let (item, in_first) = T::parse(self, cursor)?;
+        let first = Boxed::new(self.alloc, item)?;
+        let (others, in_others) = self.other_operands::<T>(cursor)?;
+        Ok(((first, others), in_first.max(in_others)))
     }
 
     /// Commas and operands after the second operand of a call.
