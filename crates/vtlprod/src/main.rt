@@ -3,7 +3,10 @@
 //! The contract of `run_vtlprod`, of the crate `commands`, says what is written and with which status the program ends.
 #![tactic(auto)]
 
-use commands::call::run_vtlprod;
+ghost use Rattle.std.specs.Prelude.{◌≡◌};
+ghost use Rattle.std.specs.Process.{exit_status};
+
+use commands::call::{Outcome, run_vtlprod};
 use outside::{FolderShelf, OpenGate, StdoutSink};
 use std::process::ExitCode;
 use std::{env, io};
@@ -16,6 +19,13 @@ fn arguments(rt: &HostRuntime) -> io::Result<Vec<String>> {
         words.push(word)?;
     }
     Ok(words)
+}
+
+// The code that the process ends with: the status of the outcome.
+fn exit_code(outcome: Outcome) -> ExitCode
+    ensures { exit_status result ≡ outcome.status }
+{
+    ExitCode::from(outcome.into_status())
 }
 
 fn main(rt: HostRuntime) -> ExitCode {
@@ -32,6 +42,5 @@ fn main(rt: HostRuntime) -> ExitCode {
         inner: rt.stdout(),
         faults: 0,
     };
-    let outcome = run_vtlprod(&rt, &words, &mut shelf, &mut out, &OpenGate);
-    ExitCode::from(outcome.into_status())
+    exit_code(run_vtlprod(&rt, &words, &mut shelf, &mut out, &OpenGate))
 }
