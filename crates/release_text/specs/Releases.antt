@@ -1,5 +1,5 @@
 -- The texts of releases (docs/formats.md, "Releases").
-use Rattle.std.specs.Prelude.{ℕ, List, ◌++◌, codes, decimal, encode_utf8_all, refl}
+use Rattle.std.specs.Prelude.{ℕ, zero, suc, List, [], ◌++◌, codes, decimal, encode_utf8_all, refl}
 use Rattle.std.specs.Coded.{Coded, code_by, coded×, coded_list, coded_ℕ}
 use Rattle.std.specs.List.{flat_map}
 use Rattle.vtl_values.specs.declared.structure.Component.{Component}
@@ -24,10 +24,15 @@ page_coded = code_by (List ℕ × (List Component × DataSet)) (coded× (coded_l
 unfoldable pub page_text : Page → List ℕ
 page_text page = codes "[" ++ encode_utf8_all page.name ++ codes "]\n" ++ table page.components page.set
 
--- the line `release NUMBER prefix PREFIX`
-unfoldable pub release_line : ℕ → ℕ → List ℕ
-release_line number prefix = codes "release " ++ decimal number ++ codes " prefix " ++ decimal prefix ++ codes "\n"
+-- what the line of a release says of its script: of the first one nothing
+unfoldable pub script_said : ℕ → List ℕ
+script_said zero = []
+script_said (suc script) = codes " script " ++ decimal (suc script)
+
+-- the line `release NUMBER prefix PREFIX`, with ` script SCRIPT` at its end where the script isn't the first one
+unfoldable pub release_line : ℕ → ℕ → ℕ → List ℕ
+release_line number prefix script = codes "release " ++ decimal number ++ codes " prefix " ++ decimal prefix ++ script_said script ++ codes "\n"
 
 -- the release's line, and its pages in their order
-unfoldable pub release : ℕ → ℕ → List Page → List ℕ
-release number prefix pages = release_line number prefix ++ flat_map page_text pages
+unfoldable pub release : ℕ → ℕ → ℕ → List Page → List ℕ
+release number prefix script pages = release_line number prefix script ++ flat_map page_text pages

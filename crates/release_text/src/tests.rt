@@ -11,6 +11,7 @@ fn threads_may_share_a_release(rt: HostRuntime) -> Result<(), Fail> {
     let release = Release {
         number: 1,
         prefix: 1,
+        script: 0,
         pages: Items::new(rt.alloc()),
     };
     share(&release);

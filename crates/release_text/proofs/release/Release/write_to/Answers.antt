@@ -6,11 +6,11 @@ use Rattle.release_text.specs.Releases.{Page, page_text, release, release_line}
 use Rattle.release_text.proofs.release.Release.write_to.Goals as goal
 
 pub loop-page-init : goal.loop-page-init
-loop-page-init g c = rw (append-nil (release_line c.args.self.now.number c.args.self.now.prefix)) c.write_line-written.ensures
+loop-page-init g c = rw (append-nil (release_line c.args.self.now.number c.args.self.now.prefix c.args.self.now.script)) c.write_line-written.ensures
 
 pub loop-page-preserved : goal.loop-page-preserved
 loop-page-preserved g c =
-    let line = release_line c.args.self.now.number c.args.self.now.prefix in
+    let line = release_line c.args.self.now.number c.args.self.now.prefix c.args.self.now.script in
     let pages = c.as_slice-page-items.result.now in
     let i = c.loop-page.page-index in
     let page = c.page-item.result in

@@ -6,4 +6,4 @@ use Rattle.release_text.proofs.release.Release.write_to.Given as goal
 
 abbrev pub invariant-loop-page : goal.invariant-loop-page
 invariant-loop-page g l = Extends (g.K.Sink.view l.fn.out) (g.K.Sink.view l.out) l.fn.so_far l.written
-    (release_line l.fn.self.number l.fn.self.prefix ++ flat_map page_text (take l.page-index l.page-items))
+    (release_line l.fn.self.number l.fn.self.prefix l.fn.self.script ++ flat_map page_text (take l.page-index l.page-items))
