@@ -1,21 +1,19 @@
 -- The end of a round.
-use Rattle.std.proofs.Common.{◌≡◌, ◌≢◌, ◌⊎◌, inl, inr, ℕ, zero, suc, ◌+◌, ◌-◌, ◌<◌, ◌≤◌, Bool, true, false, List, [], ◌∷◌, ◌++◌, length, get_or, Option, Some, None, Vec, vec_capacity, sym, ◌∙◌, ap, refl, arith, subst, set, map}
+use Rattle.std.proofs.Common.{◌≡◌, ◌≢◌, inl, inr, ℕ, zero, suc, ◌+◌, ◌-◌, ◌<◌, ◌≤◌, Bool, true, false, cond, List, [], ◌∷◌, ◌++◌, length, get_or, drop, Option, Some, None, Vec, vec_capacity, sym, ◌∙◌, ap, refl, arith, subst, set, map}
 use Rattle.std.specs.Prelude.{sum, min}
-use Rattle.std.specs.Option.{IsSomeAnd}
+use Rattle.std.specs.Arc.{arc_value}
+use Rattle.std.specs.declared.sync.Arc.{Arc}
 use Rattle.std.specs.declared.alloc.Global.{Global}
+use Rattle.round_core.specs.declared.limits.TheConstants.{EARLIER_LIMIT}
 use Rattle.std.proofs.lemmas.List.{length-set, get_or-set_same, get_or-set_other}
 use Rattle.std.proofs.lemmas.List.Sums.{sum_by-cons}
 use Rattle.std.proofs.Math.Nat.{min-eq_left, min-eq_right}
 use Rattle.std.proofs.lemmas.Bool.{eq-eqb, ne_eqb, cases_lt, cases_eq}
 use Rattle.round_core.specs.Answers.{told}
 use Rattle.std.proofs.lemmas.Option.{slice_get-get_or}
-use Rattle.std.specs.List.{slice_get}
 use Rattle.point_sets.specs.DataSets.{DataSet}
-use Rattle.checked_trees.specs.declared.script.CheckedStatement.{CheckedStatement}
-use Rattle.checked_trees.specs.declared.tree.Source.TheVariants.{Result as ResultOf}
 use Rattle.checked_trees.specs.Scripts.{Script}
-use Rattle.operator_meaning.specs.Results.{Wrong as Fault}
-use Rattle.operator_meaning.specs.Scripts.{State as StatementState, Has, Fails, At, Total, states, points_in, script_wrong, or_total, POINTS_LIMIT}
+use Rattle.operator_meaning.specs.Scripts.{State as StatementState, Total, states, points_in, script_wrong, or_total, POINTS_LIMIT}
 use Rattle.release_text.specs.Releases.{Page}
 use Rattle.release_text.specs.declared.release.Release.{Release}
 use Rattle.transform_nodes.specs.declared.node.Node.{Node}
@@ -23,22 +21,20 @@ use Rattle.transform_nodes.specs.declared.fault.NodeFault.{NodeFault}
 use Rattle.transform_nodes.specs.declared.work.Settle.{Settle}
 use Rattle.transform_nodes.specs.declared.work.Settle.TheVariants.{Apply, Forget}
 use Rattle.transform_nodes.specs.Faults.{wrong_of}
-use Rattle.transform_nodes.specs.Nodes.{published, operand_on, StandsAs}
+use Rattle.transform_nodes.specs.Nodes.{published}
 use Rattle.round_journal.specs.declared.entry.Entry.{Entry}
 use Rattle.round_journal.specs.declared.entry.What.{What}
 use Rattle.round_journal.specs.declared.entry.What.TheVariants.{Published, Failed, Dropped}
 use Rattle.round_journal.specs.declared.verdict.ScriptFault.{ScriptFault}
 use Rattle.round_journal.specs.declared.verdict.ScriptFault.TheVariants as fault
-use Rattle.round_journal.specs.Journals.{State, Status, Waiting, Out, Back, Spoiled, after_what, state_of, inputs, old_inputs, new_inputs, inputs_now, aside, Over, Ends, fault_said, MayCome}
-use Rattle.round_journal.specs.Ends.{NoneSpoiled, OverUnspoiled, FirstFault, NoFault, IsNoFault, ArePoints}
+use Rattle.round_journal.specs.Journals.{State, Status, Back, Spoiled, after_what, state_of, number, base, inputs, new_inputs, inputs_now, Over, Ends, fault_said, MayCome}
+use Rattle.round_journal.specs.Ends.{OverUnspoiled, FirstFault, NoFault, IsNoFault, ArePoints}
 use Rattle.round_journal.specs.Releases.{IsRelease, pages_on}
-use Rattle.round_journal.specs.Counts.{PrefixesInOrder}
-use Rattle.round_journal.proofs.InputLemmas.{PrefixesInOrder-legal}
-use Rattle.round_journal.proofs.CountLemmas.{IsUnspoiled-legal, RoundsInOrder-legal, IsSpent-legal, aside-end, CountsWithin-journal}
+use Rattle.round_journal.specs.Counts.{IsNoRelease}
+use Rattle.round_journal.proofs.CountLemmas.{IsUnspoiled-legal, RoundsInOrder-legal, IsSpent-legal, aside-end}
 use Rattle.round_journal.proofs.EndLemmas.{script_wrong-first, came_back-all, script_wrong-points, or_total-few, or_total-many}
 use Rattle.round_journal.proofs.ReleaseLemmas.{IsRelease-stays, IsRelease-made, operand_on-has, pages_on-each}
 use Rattle.round_core.specs.declared.machine.Machine.{Machine}
-use Rattle.round_core.specs.declared.counts.Counts.{Counts}
 use Rattle.round_core.specs.declared.inputs.Inputs.{Inputs}
 use Rattle.round_core.specs.declared.slot.Slot.{Slot}
 use Rattle.round_core.specs.declared.slot.Stage.{Stage}
@@ -46,14 +42,14 @@ use Rattle.round_core.specs.declared.slot.Stage.TheVariants as stage
 use Rattle.revision_judge.specs.Judging.{input}
 use Rattle.round_core.specs.declared.inputs.InputChange.{InputChange}
 use Rattle.round_core.specs.Inputs.{InputsKept, ChangeKept, AllClosed}
-use Rattle.round_core.specs.Kept.{Scene, scene_of, IsHome, WaitingKept, ResultKept, BackKept, RestKept, StageKept, PlaceKept, SlotKept, SlotsKept, CountsKept, Within, Sound, KeptMachine, seen_of}
-use Rattle.round_core.specs.Seen.{Seen, seen_with}
-use Rattle.round_core.specs.Slots.{SameHome, SameHomes, settle_by, IsFaultFree, EachSlot, FirstWrong, HasFault, AllStill, pages_in, pages_of_stage, points_of_stage, points_in_all}
+use Rattle.round_core.specs.Kept.{Scene, scene_of, IsHome, ResultKept, BackKept, RestKept, StageKept, SlotsKept, CountsKept, EarlierKept, Sound, KeptMachine, state_at}
+use Rattle.round_core.specs.Slots.{SameHome, SameHomes, settle_by, IsFaultFree, EachSlot, FirstWrong, AllStill, pages_in, pages_of_stage, points_of_stage, points_in_all}
 use Rattle.round_core.specs.Steps.{OpenStill, closed_counts}
-use Rattle.round_core.proofs.KeptLemmas.{state_along, long_along, legal_along, seen_along}
+use Rattle.round_core.proofs.KeptLemmas.{state_along, GoesTo, within_less, in_order, earlier_stays}
+use Rattle.round_core.proofs.ReleaseLemmas.{earlier_published}
 use Rattle.round_core.proofs.ClaimLemmas.{opened_of}
 use Rattle.round_core.proofs.Lists.{some_of, get_or_any}
-use Rattle.round_core.proofs.SlotLemmas.{Opened, slot_kept, slot_sources, many, over_of}
+use Rattle.round_core.proofs.SlotLemmas.{Opened, slot_kept, slot_sources, many, over_of, still_of}
 
 -- ---- points
 
@@ -160,142 +156,120 @@ pub record Ended (a : Machine) (n : ℕ) : Type 0 where
   pub slots : AllStill a.slots.items
 
 module _ (a : Machine) (n : ℕ) (e : Ended a n) where
-  abbrev c : Script
-  c = a.script
-
   abbrev s : State
-  s = state_of a.journal.items
+  s = state_at a
 
-  pub open_slots : Opened c s a.slots.items
-  open_slots = opened_of a e.still.sound (e.still.sound.counts.running ∙ e.still.running)
+  abbrev c : Script
+  c = s.round.script
 
-  pub over : Over c s
-  over = over_of c s a.slots.items open_slots e.slots
+  pub open_slots : Opened s a.slots.items
+  open_slots = opened_of a e.still.within e.still.sound (e.still.sound.counts.running ∙ e.still.running)
 
-  pub ends : Ends c s n a.counts.to
+  pub over : Over s
+  over = over_of s a.slots.items open_slots e.slots
+
+  pub ends : Ends s n a.counts.to
   ends = record { over = over; prefix = e.still.sound.counts.to; same_caller = sym e.still.same_caller }
 
   pub room_left : 1 ≤ a.counts.aside
-  room_left = let h = aside-end c s e.still.running (IsSpent-legal c a.journal.items e.still.within.legal) in omega (arith, h, e.still.sound.counts.aside)
+  room_left = let h = aside-end s e.still.running (IsSpent-legal (arc_value a.first) a.journal.items e.still.within.legal) in omega (arith, h, e.still.sound.counts.aside)
 
   pub earlier : s.published < s.rounds
-  earlier = (RoundsInOrder-legal c a.journal.items e.still.within.legal).before_open e.still.running
+  earlier = (RoundsInOrder-legal (arc_value a.first) a.journal.items e.still.within.legal).before_open e.still.running
 
-  pub unspoiled : a.counts.spoiled ≡ false → OverUnspoiled c s
-  unspoiled clean = record { over = over; unspoiled = IsUnspoiled-legal c a.journal.items e.still.within.legal (sym e.still.sound.counts.spoiled ∙ clean) }
+  pub unspoiled : a.counts.spoiled ≡ false → OverUnspoiled s
+  unspoiled clean = record { over = over; unspoiled = IsUnspoiled-legal (arc_value a.first) a.journal.items e.still.within.legal (sym e.still.sound.counts.spoiled ∙ clean) }
 
-  pub rested : (after : List Slot) → SameHomes a.slots.items after → SlotsKept (scene_of c s) false after
-  rested after same = slots_rest (scene_of c s) a.slots.items after earlier open_slots.kept e.slots.none_out same
+  pub rested : (after : List Slot) → SameHomes a.slots.items after → SlotsKept (scene_of s) false after
+  rested after same = slots_rest (scene_of s) a.slots.items after earlier open_slots.kept e.slots.none_out same
 
-  -- the journal's end
-  within_closed : (b : Machine) (w : What) → b.script ≡ a.script → b.limits ≡ a.limits → b.journal.items ≡ a.journal.items ++ (record { by = n; what = w }) ∷ [] → vec_capacity a.journal ≤ vec_capacity b.journal → b.counts.aside ≡ 0 → b.counts.fields ≡ a.counts.fields → MayCome c s n w → Within b
-  within_closed b w es el ej room ea ef may =
-      let long = long_along a b.journal.items n w ej in
-      let m = e.still.within in
+  -- the production after an end: its state t doesn't run
+  kept_closed : (b : Machine) (w : What) (t : State) → GoesTo a n w b → t ≡ after_what s n w → t.running ≡ false → Sound b t → b.counts.aside ≡ 0 → b.counts.fields ≡ a.counts.fields → b.counts.newest ≡ a.counts.newest → vec_capacity a.journal ≤ vec_capacity b.journal → KeptMachine b
+  kept_closed b w t goes et stops sound ea ef en room =
       let one = room_left in
-      let entries : b.limits.entries ≡ a.limits.entries = ap (λ l. l.entries) el in
-      let fields : b.limits.fields ≡ a.limits.fields = ap (λ l. l.fields) el in record {
-        legal = subst (λ (q : Script). Rattle.round_journal.specs.Journals.Legal q b.journal.items) (sym es) (legal_along a b.journal.items n w ej m.legal may);
-        entries = subst (λ q. q ≤ Rattle.round_core.specs.declared.limits.TheConstants.ENTRY_LIMIT) (sym entries) m.entries;
-        fields = subst (λ q. q ≤ Rattle.round_core.specs.declared.limits.TheConstants.FIELD_LIMIT) (sym fields) m.fields;
-        fits = omega (arith, long, m.fits, one, ea, entries);
-        fields_fit = omega (arith, ef, m.fields_fit, fields);
-        room = omega (arith, long, m.room, room, one, ea);
+      let st : t ≡ state_at b = et ∙ state_along a b.journal.items n w goes.items ∙ ap (λ (q : Arc Script Global). state_of (arc_value q) b.journal.items) (sym goes.first) in
+      record {
+        within = within_less a b n w e.still.within goes (omega (arith, ea, one)) ef en room;
+        sound = subst (λ (u : State). Sound b u) st sound;
+        live = subst (λ (u : State). ¬ (Over u)) st (λ o. let r = o.open_still in cc (r, stops));
       }
 
-  -- ---- by no release
-
-  pub kept_failed : (j : Vec Entry Global) (slots : Vec Slot Global) (f : ScriptFault) → a.counts.spoiled ≡ false → script_wrong c (new_inputs c s) ≡ Some (fault_said f) → SameHomes a.slots.items slots.items
-      → j.items ≡ a.journal.items ++ (record { by = n; what = Failed a.counts.to f }) ∷ [] → vec_capacity a.journal ≤ vec_capacity j → KeptMachine (record a { journal = j; slots = slots; counts = closed_counts a.counts })
-  kept_failed j slots f clean wrong same ej room =
-      let w : What = Failed a.counts.to f in
-      let t : State = after_what s n w in
-      let b : Machine = record a { journal = j; slots = slots; counts = closed_counts a.counts } in
+  -- an end without a release
+  kept_unreleased : (j : Vec Entry Global) (slots : Vec Slot Global) (w : What) (dropped : Bool) → IsNoRelease w → after_what s n w ≡ record s { running = false; dropped = dropped; by = n } → MayCome s n w → SameHomes a.slots.items slots.items → j.items ≡ a.journal.items ++ (record { by = n; what = w }) ∷ [] → vec_capacity a.journal ≤ vec_capacity j
+      → KeptMachine (record a { journal = j; slots = slots; counts = closed_counts (record a.counts { dropped = dropped }) })
+  kept_unreleased j slots w dropped none et may same ej room =
+      let t : State = record s { running = false; dropped = dropped; by = n } in
+      let b : Machine = record a { journal = j; slots = slots; counts = closed_counts (record a.counts { dropped = dropped }) } in
       let k = e.still.sound in
-      let st : t ≡ state_of j.items = state_along a j.items n w ej in
-      let counts : CountsKept c b.counts t = record { accepted = k.counts.accepted; fields = k.counts.fields; base = k.counts.base; published = k.counts.published; rounds = k.counts.rounds; running = refl; dropped = k.counts.dropped; spoiled = k.counts.spoiled; to = k.counts.to; aside = refl } in
+      let p = in_order a e.still.within in
+      let counts : CountsKept b.counts t = record { accepted = k.counts.accepted; fields = k.counts.fields; newest = k.counts.newest; published = k.counts.published; rounds = k.counts.rounds; script = k.counts.script; base = k.counts.base; running = refl; dropped = refl; spoiled = k.counts.spoiled; to = k.counts.to; aside = refl } in
       let sound : Sound b t = record {
-        checked = k.checked;
+        scripts = record { first = k.scripts.first; newest = k.scripts.newest; round = k.scripts.round };
         counts = counts;
         inputs = k.inputs;
         slots = rested slots.items same;
-        release = IsRelease-stays c s n w a.latest (PrefixesInOrder-legal c a.journal.items e.still.within.legal) tt k.release;
+        passed = λ r. cc r;
+        release = subst (λ (u : State). IsRelease u a.latest) et (IsRelease-stays s n w a.latest p none k.release);
+        earlier = subst (λ (u : State). EarlierKept u a.earlier.items) et (earlier_stays s n w a.earlier.items p none k.earlier);
+        earlier_fit = k.earlier_fit;
         pages = k.pages;
         pages_fit = λ r. cc r;
       } in
-      record {
-        within = within_closed b w refl refl ej room refl refl (ends, sym k.counts.spoiled ∙ clean, wrong);
-        sound = subst (λ (u : State). Sound b u) st sound;
-        live = subst (λ (u : State). ¬ (Over c u)) st (λ o. let r = o.open_still in cc r);
-      }
+      kept_closed b w t (record { first = refl; limits = refl; items = ej; may = may }) (sym et) refl sound refl refl refl room
+
+  pub kept_failed : (j : Vec Entry Global) (slots : Vec Slot Global) (f : ScriptFault) → a.counts.spoiled ≡ false → script_wrong c (new_inputs s) ≡ Some (fault_said f) → SameHomes a.slots.items slots.items → j.items ≡ a.journal.items ++ (record { by = n; what = Failed a.counts.to f }) ∷ [] → vec_capacity a.journal ≤ vec_capacity j
+      → KeptMachine (record a { journal = j; slots = slots; counts = closed_counts a.counts })
+  kept_failed j slots f clean wrong same ej room =
+      let k = e.still.sound.counts in
+      kept_unreleased j slots (Failed a.counts.to f) a.counts.dropped tt (ap (λ (q : Bool). let u : State = record s { running = false; dropped = q; by = n } in u) (sym k.dropped)) (ends, sym k.spoiled ∙ clean, wrong) same ej room
 
   pub kept_dropped : (j : Vec Entry Global) → a.counts.spoiled ≡ true → j.items ≡ a.journal.items ++ (record { by = n; what = Dropped a.counts.to }) ∷ [] → vec_capacity a.journal ≤ vec_capacity j
       → KeptMachine (record a { journal = j; counts = closed_counts (record a.counts { dropped = true }) })
-  kept_dropped j spoiled ej room =
-      let w : What = Dropped a.counts.to in
-      let t : State = after_what s n w in
-      let b : Machine = record a { journal = j; counts = closed_counts (record a.counts { dropped = true }) } in
-      let k = e.still.sound in
-      let st : t ≡ state_of j.items = state_along a j.items n w ej in
-      let counts : CountsKept c b.counts t = record { accepted = k.counts.accepted; fields = k.counts.fields; base = k.counts.base; published = k.counts.published; rounds = k.counts.rounds; running = refl; dropped = refl; spoiled = k.counts.spoiled; to = k.counts.to; aside = refl } in
-      let sound : Sound b t = record {
-        checked = k.checked;
-        counts = counts;
-        inputs = k.inputs;
-        slots = rested a.slots.items (refl, λ i d l. record { sources = refl; stamp = refl; node = refl });
-        release = IsRelease-stays c s n w a.latest (PrefixesInOrder-legal c a.journal.items e.still.within.legal) tt k.release;
-        pages = k.pages;
-        pages_fit = λ r. cc r;
-      } in
-      record {
-        within = within_closed b w refl refl ej room refl refl (ends, sym k.counts.spoiled ∙ spoiled);
-        sound = subst (λ (u : State). Sound b u) st sound;
-        live = subst (λ (u : State). ¬ (Over c u)) st (λ o. let r = o.open_still in cc r);
-      }
+  kept_dropped j spoiled ej room = kept_unreleased j a.slots (Dropped a.counts.to) true tt refl (ends, sym e.still.sound.counts.spoiled ∙ spoiled) (refl, λ i d l. record { sources = refl; stamp = refl; node = refl }) ej room
 
   -- ---- by the first fault
 
-  free_of : (i : ℕ) → i < length a.slots.items → ((d : Slot) → IsFaultFree (get_or a.slots.items i d)) → IsNoFault c s i
+  free_of : (i : ℕ) → i < length a.slots.items → ((d : Slot) → IsFaultFree (get_or a.slots.items i d)) → IsNoFault s i
   free_of i l free back wrong fails =
       let d = some_of a.slots.items i l in
-      by_stage (get_or a.slots.items i d).stage refl (slot_kept c s a.slots.items open_slots i d l)
+      by_stage (get_or a.slots.items i d).stage refl (slot_kept s a.slots.items open_slots i d l)
     where
-      by_stage : (st : Stage) → (get_or a.slots.items i (some_of a.slots.items i l)).stage ≡ st → StageKept (scene_of c s) i (get_or a.slots.items i (some_of a.slots.items i l)) (get_or a.slots.items i (some_of a.slots.items i l)).stage → ⊥
-      by_stage stage.Waiting q k = let h = (subst (λ z. StageKept (scene_of c s) i (get_or a.slots.items i (some_of a.slots.items i l)) z) q k).place in cc (h, back)
-      by_stage stage.Out q k = let h = (subst (λ z. StageKept (scene_of c s) i (get_or a.slots.items i (some_of a.slots.items i l)) z) q k).1 in cc (h, back)
-      by_stage (stage.Right points pages) q k = let h = (subst (λ z. StageKept (scene_of c s) i (get_or a.slots.items i (some_of a.slots.items i l)) z) q k).1.state in cc (h, fails)
+      by_stage : (st : Stage) → (get_or a.slots.items i (some_of a.slots.items i l)).stage ≡ st → StageKept (scene_of s) i (get_or a.slots.items i (some_of a.slots.items i l)) (get_or a.slots.items i (some_of a.slots.items i l)).stage → ⊥
+      by_stage stage.Waiting q k = let h = (subst (λ z. StageKept (scene_of s) i (get_or a.slots.items i (some_of a.slots.items i l)) z) q k).place in cc (h, back)
+      by_stage stage.Out q k = let h = (subst (λ z. StageKept (scene_of s) i (get_or a.slots.items i (some_of a.slots.items i l)) z) q k).1 in cc (h, back)
+      by_stage (stage.Right points pages) q k = let h = (subst (λ z. StageKept (scene_of s) i (get_or a.slots.items i (some_of a.slots.items i l)) z) q k).1.state in cc (h, fails)
       by_stage (stage.Wrong kept told) q k = free (some_of a.slots.items i l) kept told q
-      by_stage stage.Spoiled q k = let h = (subst (λ z. StageKept (scene_of c s) i (get_or a.slots.items i (some_of a.slots.items i l)) z) q k).place in cc (h, back)
+      by_stage stage.Spoiled q k = let h = (subst (λ z. StageKept (scene_of s) i (get_or a.slots.items i (some_of a.slots.items i l)) z) q k).place in cc (h, back)
 
-  pub first_fault : (i : ℕ) (kept told : NodeFault) (d : Slot) → FirstWrong a.slots.items i → (get_or a.slots.items i d).stage ≡ stage.Wrong kept told → (wrong_of told ≡ wrong_of kept) × FirstFault c s i (wrong_of kept)
+  pub first_fault : (i : ℕ) (kept told : NodeFault) (d : Slot) → FirstWrong a.slots.items i → (get_or a.slots.items i d).stage ≡ stage.Wrong kept told → (wrong_of told ≡ wrong_of kept) × FirstFault s i (wrong_of kept)
   first_fault i kept told d h q =
-      let k = subst (λ z. StageKept (scene_of c s) i (get_or a.slots.items i d) z) q (slot_kept c s a.slots.items open_slots i d h.below) in (
+      let k = subst (λ z. StageKept (scene_of s) i (get_or a.slots.items i d) z) q (slot_kept s a.slots.items open_slots i d h.below) in (
         k.1,
         record {
-          below = let l = h.below in let m = many c s a.slots.items open_slots in omega (arith, l, m);
+          below = let l = h.below in let m = many s a.slots.items open_slots in omega (arith, l, m);
           back = k.0.place;
           fails = k.2;
           first = λ j l. free_of j (let b = h.below in omega (arith, b, l)) (λ d'. h.first j d' l);
         },
       )
 
-  pub fault_is : (i : ℕ) (kept told : NodeFault) (d : Slot) → a.counts.spoiled ≡ false → FirstWrong a.slots.items i → (get_or a.slots.items i d).stage ≡ stage.Wrong kept told → script_wrong c (new_inputs c s) ≡ Some (fault_said (fault.At i kept))
-  fault_is i kept told d clean h q = script_wrong-first c s e.still.sound.checked (unspoiled clean) i (wrong_of kept) (first_fault i kept told d h q).1
+  pub fault_is : (i : ℕ) (kept told : NodeFault) (d : Slot) → a.counts.spoiled ≡ false → FirstWrong a.slots.items i → (get_or a.slots.items i d).stage ≡ stage.Wrong kept told → script_wrong c (new_inputs s) ≡ Some (fault_said (fault.At i kept))
+  fault_is i kept told d clean h q = script_wrong-first s open_slots.agrees.checked (unspoiled clean) i (wrong_of kept) (first_fault i kept told d h q).1
 
   -- ---- by no fault
 
   module _ (clean : a.counts.spoiled ≡ false) (free : EachSlot (λ i slot. IsFaultFree slot) a.slots.items) where
-    none : NoFault c s
-    none i l = let b : i < length a.slots.items = let m = many c s a.slots.items open_slots in omega (arith, l, m) in free_of i b (λ d. free i d b)
+    none : NoFault s
+    none i l = let b : i < length a.slots.items = let m = many s a.slots.items open_slots in omega (arith, l, m) in free_of i b (λ d. free i d b)
 
     -- each statement came back with a data set
-    pub right : (i : ℕ) (d : Slot) → i < length a.slots.items → (points : ℕ) × (pages : Option Page) × ((get_or a.slots.items i d).stage ≡ stage.Right points pages) × BackKept (scene_of c s) i (get_or a.slots.items i d) Back × ResultKept (scene_of c s) i points pages (get_or a.slots.items i d).node
-    right i d l = by_stage (get_or a.slots.items i d).stage refl (slot_kept c s a.slots.items open_slots i d l)
+    pub right : (i : ℕ) (d : Slot) → i < length a.slots.items → (points : ℕ) × (pages : Option Page) × ((get_or a.slots.items i d).stage ≡ stage.Right points pages) × BackKept (scene_of s) i (get_or a.slots.items i d) Back × ResultKept (scene_of s) i points pages (get_or a.slots.items i d).node
+    right i d l = by_stage (get_or a.slots.items i d).stage refl (slot_kept s a.slots.items open_slots i d l)
       where
         back : s.status i ≡ Back
-        back = (came_back-all c s e.still.sound.checked (unspoiled clean) none i (let m = many c s a.slots.items open_slots in omega (arith, l, m))).0
+        back = (came_back-all s open_slots.agrees.checked (unspoiled clean) none open_slots.agrees.same_inputs i (let m = many s a.slots.items open_slots in omega (arith, l, m))).0
 
-        by_stage : (st : Stage) → (get_or a.slots.items i d).stage ≡ st → StageKept (scene_of c s) i (get_or a.slots.items i d) st → (points : ℕ) × (pages : Option Page) × (st ≡ stage.Right points pages) × BackKept (scene_of c s) i (get_or a.slots.items i d) Back × ResultKept (scene_of c s) i points pages (get_or a.slots.items i d).node
+        by_stage : (st : Stage) → (get_or a.slots.items i d).stage ≡ st → StageKept (scene_of s) i (get_or a.slots.items i d) st → (points : ℕ) × (pages : Option Page) × (st ≡ stage.Right points pages) × BackKept (scene_of s) i (get_or a.slots.items i d) Back × ResultKept (scene_of s) i points pages (get_or a.slots.items i d).node
         by_stage stage.Waiting q k = let h = k.place in absurd (cc (h, back))
         by_stage stage.Out q k = let h = k.1 in absurd (cc (h, back))
         by_stage (stage.Right points pages) q k = (points, pages, refl, k.0, k.1)
@@ -303,39 +277,39 @@ module _ (a : Machine) (n : ℕ) (e : Ended a n) where
         by_stage stage.Spoiled q k = let h = k.place in absurd (cc (h, back))
 
     abbrev all_points : List ℕ
-    all_points = points_from (states c (new_inputs c s)) 0 (length a.slots.items)
+    all_points = points_from (states c (new_inputs s)) 0 (length a.slots.items)
 
-    are_points : ArePoints c (new_inputs c s) all_points
+    are_points : ArePoints c (new_inputs s) all_points
     are_points = record {
-      many = points_from-long (states c (new_inputs c s)) 0 (length a.slots.items) ∙ many c s a.slots.items open_slots;
-      each = λ i l. points_from-at (states c (new_inputs c s)) 0 (length a.slots.items) i (let m = many c s a.slots.items open_slots in omega (arith, l, m)) ∙ ap (λ m. points_in (states c (new_inputs c s) m)) (omega arith);
+      many = points_from-long (states c (new_inputs s)) 0 (length a.slots.items) ∙ many s a.slots.items open_slots;
+      each = λ i l. points_from-at (states c (new_inputs s)) 0 (length a.slots.items) i (let m = many s a.slots.items open_slots in omega (arith, l, m)) ∙ ap (λ m. points_in (states c (new_inputs s) m)) (omega arith);
     }
 
     same_told : told (points_in_all a.slots.items) ≡ told (sum all_points)
-    same_told = told_sum (states c (new_inputs c s)) 0 a.slots.items (λ i d l.
+    same_told = told_sum (states c (new_inputs s)) 0 a.slots.items (λ i d l.
         let h = right i d l in
-        ap points_of_stage h.2 ∙ h.4.points_are ∙ ap (λ st. told (points_in st)) (sym h.4.state) ∙ ap (λ m. told (points_in (states c (new_inputs c s) m))) (omega arith))
+        ap points_of_stage h.2 ∙ h.4.points_are ∙ ap (λ st. told (points_in st)) (sym h.4.state) ∙ ap (λ m. told (points_in (states c (new_inputs s) m))) (omega arith))
 
-    wrong_by_points : script_wrong c (new_inputs c s) ≡ or_total None (sum all_points)
-    wrong_by_points = script_wrong-points c s e.still.sound.checked (unspoiled clean) none all_points are_points
+    wrong_by_points : script_wrong c (new_inputs s) ≡ or_total None (sum all_points)
+    wrong_by_points = script_wrong-points s open_slots.agrees.checked (unspoiled clean) none all_points are_points
 
-    pub in_bounds : points_in_all a.slots.items ≤ POINTS_LIMIT → script_wrong c (new_inputs c s) ≡ None
+    pub in_bounds : points_in_all a.slots.items ≤ POINTS_LIMIT → script_wrong c (new_inputs s) ≡ None
     in_bounds l = wrong_by_points ∙ or_total-few (sum all_points) (told-few (points_in_all a.slots.items) (sum all_points) 6000000 same_told (omega arith) l)
 
-    pub too_many : (m : ℕ) → POINTS_LIMIT < points_in_all a.slots.items → m ≡ min (points_in_all a.slots.items) 18446744073709551615 → script_wrong c (new_inputs c s) ≡ Some (fault_said (fault.Total m))
+    pub too_many : (m : ℕ) → POINTS_LIMIT < points_in_all a.slots.items → m ≡ min (points_in_all a.slots.items) 18446744073709551615 → script_wrong c (new_inputs s) ≡ Some (fault_said (fault.Total m))
     too_many m l q = wrong_by_points ∙ or_total-many (sum all_points) (told-many (points_in_all a.slots.items) (sum all_points) 6000000 same_told (omega arith) l) ∙ ap (λ x. Some (Total x)) (sym (q ∙ same_told))
 
     -- the pages of the release
-    pub pages_are : pages_in a.slots.items ≡ pages_on c (new_inputs c s)
-    pages_are = pages_on-each (λ slot. pages_of_stage slot.stage) pages_in refl (λ y ys. refl) c (new_inputs c s) a.slots.items (many c s a.slots.items open_slots) (λ i d statement there.
-        let b : i < length a.slots.items = let m = many c s a.slots.items open_slots in let w = Rattle.std.proofs.lemmas.Option.slice_get_within c.statements i statement there in omega (arith, w, m) in
+    pub pages_are : pages_in a.slots.items ≡ pages_on c (new_inputs s)
+    pages_are = pages_on-each (λ slot. pages_of_stage slot.stage) pages_in refl (λ y ys. refl) c (new_inputs s) a.slots.items (many s a.slots.items open_slots) (λ i d statement there.
+        let b : i < length a.slots.items = let m = many s a.slots.items open_slots in let w = Rattle.std.proofs.lemmas.Option.slice_get_within c.statements i statement there in omega (arith, w, m) in
         let h = right i d b in
-        ap pages_of_stage h.2 ∙ h.4.pages_are statement there ∙ ap (published statement) (sym (operand_on-has c (new_inputs c s) i h.4.has h.4.state)))
+        ap pages_of_stage h.2 ∙ h.4.pages_are statement there ∙ ap (published statement) (sym (operand_on-has c (new_inputs s) i h.4.has h.4.state)))
 
     -- every node's patches become part of the release
-    slots_published : (after : List Slot) → SameHomes a.slots.items after → SlotsKept (let v : Scene = record { script = c; published = s.rounds; round = s.rounds; olds = new_inputs c s; news = new_inputs c s; status = s.status } in v) false after
+    slots_published : (after : List Slot) → SameHomes a.slots.items after → SlotsKept (let v : Scene = record { script = c; published = s.rounds; round = s.rounds; olds = new_inputs s; news = new_inputs s; status = s.status } in v) false after
     slots_published after same = record {
-      many = same.0 ∙ many c s a.slots.items open_slots;
+      many = same.0 ∙ many s a.slots.items open_slots;
       each = λ i d m.
           let b : i < length a.slots.items = let q = same.0 in omega (arith, m, q) in
           let h = right i d b in
@@ -343,39 +317,39 @@ module _ (a : Machine) (n : ℕ) (e : Ended a n) where
           let new = get_or after i d in
           let to = same.1 i d b in
           let stamp : new.stamp ≡ s.rounds = to.stamp ∙ h.3.now in record {
-            sources = to.sources ∙ slot_sources c s a.slots.items open_slots i d b;
+            sources = to.sources ∙ slot_sources s a.slots.items open_slots i d b;
             place = record {
               earlier = omega (arith, stamp);
-              home = home_of c (new_inputs c s) i Apply (settle_by new.stamp s.rounds) old new (sym (settle_now new.stamp s.rounds (let q = earlier in omega (arith, stamp, q)) stamp)) to h.4.pending;
+              home = home_of c (new_inputs s) i Apply (settle_by new.stamp s.rounds) old new (sym (settle_now new.stamp s.rounds (let q = earlier in omega (arith, stamp, q)) stamp)) to h.4.pending;
             };
           };
     }
 
-    pub kept_published : (j : Vec Entry Global) (slots : Vec Slot Global) (rest : Vec Page Global) (i : Inputs) (r : Release) → points_in_all a.slots.items ≤ POINTS_LIMIT → SameHomes a.slots.items slots.items → rest.items ≡ []
-        → InputsKept (new_inputs c s) (new_inputs c s) (inputs_now c s) i → r.number ≡ s.number + 1 → r.prefix ≡ a.counts.to → r.pages ≡ pages_in a.slots.items
+    pub kept_published : (j : Vec Entry Global) (slots : Vec Slot Global) (rest : Vec Page Global) (i : Inputs) (r : Release) (es : Vec Release Global) → points_in_all a.slots.items ≤ POINTS_LIMIT → SameHomes a.slots.items slots.items → rest.items ≡ []
+        → InputsKept (new_inputs s) (new_inputs s) (inputs_now s) i → r.number ≡ number s + 1 → r.prefix ≡ a.counts.to → r.script ≡ a.counts.script → r.pages ≡ pages_in a.slots.items → es.items ≡ drop (length a.earlier.items + 1 - EARLIER_LIMIT) a.earlier.items ++ a.latest ∷ [] → EARLIER_LIMIT ≤ vec_capacity es
         → j.items ≡ a.journal.items ++ (record { by = n; what = Published a.counts.to }) ∷ [] → vec_capacity a.journal ≤ vec_capacity j
-        → KeptMachine (record a { journal = j; slots = slots; room = rest; inputs = i; latest = r; counts = closed_counts (record a.counts { published = a.counts.rounds; base = a.counts.to }) })
-    kept_published j slots rest i r few same er inputs_kept en ep eg ej room =
+        → KeptMachine (record a { journal = j; slots = slots; room = rest; inputs = i; latest = r; earlier = es; counts = closed_counts (record a.counts { published = a.counts.rounds; base = a.counts.to }) })
+    kept_published j slots rest i r es few same er inputs_kept en ep ec eg ee fit ej room =
         let w : What = Published a.counts.to in
         let k = e.still.sound in
-        let b : Machine = record a { journal = j; slots = slots; room = rest; inputs = i; latest = r; counts = closed_counts (record a.counts { published = a.counts.rounds; base = a.counts.to }) } in
+        let p = in_order a e.still.within in
+        let b : Machine = record a { journal = j; slots = slots; room = rest; inputs = i; latest = r; earlier = es; counts = closed_counts (record a.counts { published = a.counts.rounds; base = a.counts.to }) } in
         let t : State = after_what s n (Published s.to) in
-        let st : t ≡ state_of j.items = ap (λ m. after_what s n (Published m)) (sym k.counts.to) ∙ state_along a j.items n w ej in
-        let counts : CountsKept c b.counts t = record { accepted = k.counts.accepted; fields = k.counts.fields; base = k.counts.to; published = k.counts.rounds; rounds = k.counts.rounds; running = refl; dropped = k.counts.dropped; spoiled = k.counts.spoiled; to = k.counts.to; aside = refl } in
+        let base_is : base t ≡ s.to = ap (λ (q : Bool). cond q s.to 0) (eq-eqb s.round.number s.round.number refl) in
+        let counts : CountsKept b.counts t = record { accepted = k.counts.accepted; fields = k.counts.fields; newest = k.counts.newest; published = k.counts.rounds; rounds = k.counts.rounds; script = k.counts.script; base = k.counts.to ∙ sym base_is; running = refl; dropped = k.counts.dropped; spoiled = k.counts.spoiled; to = k.counts.to; aside = refl } in
         let sound : Sound b t = record {
-          checked = k.checked;
+          scripts = record { first = k.scripts.first; newest = k.scripts.newest; round = k.scripts.round };
           counts = counts;
-          inputs = inputs_kept;
-          slots = slots_published slots.items same;
-          release = IsRelease-made c s n r en (ep ∙ k.counts.to) (eg ∙ pages_are);
+          inputs = subst (λ m. InputsKept (inputs m t) (new_inputs t) (inputs_now t) i) (sym base_is) inputs_kept;
+          slots = subst (λ m. SlotsKept (let v : Scene = record { script = c; published = s.rounds; round = s.rounds; olds = inputs m t; news = new_inputs s; status = s.status } in v) false slots.items) (sym base_is) (slots_published slots.items same);
+          passed = λ q. cc q;
+          release = IsRelease-made s n r en (ep ∙ k.counts.to) (ec ∙ k.counts.script) (eg ∙ pages_are);
+          earlier = earlier_published s n s.to a.earlier.items es.items a.latest p k.earlier k.release ee;
+          earlier_fit = fit;
           pages = er;
           pages_fit = λ q. cc q;
         } in
-        record {
-          within = within_closed b w refl refl ej room refl refl (ends, sym k.counts.spoiled ∙ clean, in_bounds few);
-          sound = subst (λ (u : State). Sound b u) st sound;
-          live = subst (λ (u : State). ¬ (Over c u)) st (λ o. let q = o.open_still in cc q);
-        }
+        kept_closed b w t (record { first = refl; limits = refl; items = ej; may = (ends, sym k.counts.spoiled ∙ clean, in_bounds few) }) (ap (λ m. after_what s n (Published m)) (sym k.counts.to)) refl sound refl refl refl room
 
 -- ---- the parts of an end
 
@@ -391,15 +365,16 @@ same_homes_set slots i slot x e h = (
   ],
 )
 
-pub still_of_over : (a : Machine) (n : ℕ) → OpenStill a n → Over a.script (state_of a.journal.items) → AllStill a.slots.items
-still_of_over a n o over = Rattle.round_core.proofs.SlotLemmas.still_of a.script (state_of a.journal.items) a.slots.items (opened_of a o.sound (o.sound.counts.running ∙ o.running)) over
+pub still_of_over : (a : Machine) (n : ℕ) → OpenStill a n → Over (state_at a) → AllStill a.slots.items
+still_of_over a n o over = still_of (state_at a) a.slots.items (opened_of a o.within o.sound (o.sound.counts.running ∙ o.running)) over
 
-pub inputs_closed : (a : Machine) (i : Inputs) → Sound a (state_of a.journal.items) → i.sets ≡ a.inputs.sets → AllClosed a.inputs.changes.items i.changes.items → InputsKept (new_inputs a.script (state_of a.journal.items)) (new_inputs a.script (state_of a.journal.items)) (inputs_now a.script (state_of a.journal.items)) i
+pub inputs_closed : (a : Machine) (i : Inputs) → Sound a (state_at a) → i.sets ≡ a.inputs.sets → AllClosed a.inputs.changes.items i.changes.items → InputsKept (new_inputs (state_at a)) (new_inputs (state_at a)) (inputs_now (state_at a)) i
 inputs_closed a i sound es h =
-    let k = sound.inputs in record {
+    let k = sound.inputs in
+    let s : State = state_at a in record {
       sets = ap (λ (v : Vec DataSet Global). v.items) es ∙ k.sets;
       many = h.many ∙ k.many;
       each = λ n d l.
           let m : n < length a.inputs.changes.items = let q = k.many in omega (arith, l, q) in
-          subst (λ (x : InputChange). ChangeKept (input (new_inputs a.script (state_of a.journal.items)) n) (input (new_inputs a.script (state_of a.journal.items)) n) (input (inputs_now a.script (state_of a.journal.items)) n) x) (sym (h.each n d m)) (record { older = refl; newer = (k.each n d l).newer });
+          subst (λ (x : InputChange). ChangeKept (input (new_inputs s) n) (input (new_inputs s) n) (input (inputs_now s) n) x) (sym (h.each n d m)) (record { older = refl; newer = (k.each n d l).newer });
     }

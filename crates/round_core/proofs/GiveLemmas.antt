@@ -1,21 +1,21 @@
 -- Taking works back.
-use Rattle.std.proofs.Common.{◌≡◌, ◌≢◌, ◌⊎◌, inl, inr, ℕ, zero, suc, ◌+◌, ◌-◌, ◌<◌, ◌≤◌, Bool, true, false, List, [], ◌∷◌, ◌++◌, length, get_or, Option, Some, None, Vec, vec_capacity, sym, ◌∙◌, ap, refl, arith, subst, set, map}
-use Rattle.std.specs.Option.{is_some, IsSomeAnd}
+use Rattle.std.proofs.Common.{◌≡◌, ◌≢◌, inl, inr, ℕ, ◌+◌, ◌-◌, ◌<◌, ◌≤◌, Bool, true, false, List, [], ◌∷◌, ◌++◌, length, get_or, Option, Some, Vec, vec_capacity, sym, ◌∙◌, ap, refl, arith, subst, set, take}
+use Rattle.std.specs.Option.{is_some}
 use Rattle.std.specs.Arc.{arc_value}
-use Rattle.std.specs.List.{All, AllPairs, Contains, slice_get}
+use Rattle.std.specs.List.{All, AllPairs, Contains}
 use Rattle.std.specs.declared.sync.Arc.{Arc}
 use Rattle.std.specs.declared.alloc.Global.{Global}
 use Rattle.std.proofs.lemmas.Bool.{cases_eq}
-use Rattle.std.proofs.lemmas.List.{length-set, get_or-set_same, get_or-set_other, get_or-map}
-use Rattle.std.proofs.lemmas.Option.{get_or_from_slice_get, slice_get_within, slice_get-get_or}
+use Rattle.std.proofs.lemmas.List.{length-set, length-take, get_or-take, get_or-set_same, get_or-set_other}
+use Rattle.std.proofs.lemmas.Option.{get_or_from_slice_get, slice_get_within}
 use Rattle.data_model.specs.Deltas.{Leads}
 use Rattle.point_sets.specs.DataSets.{DataSet}
 use Rattle.point_sets.specs.Changes.{Changes}
 use Rattle.checked_trees.specs.declared.tree.Source.{Source}
 use Rattle.checked_trees.specs.declared.tree.Source.TheVariants.{Input, Result as ResultOf}
-use Rattle.checked_trees.specs.Scripts.{Script, sources_of, uses_of, once_each, names_of}
+use Rattle.checked_trees.specs.Scripts.{Script, sources_of, names_of}
 use Rattle.operator_meaning.specs.Results.{Wrong as Fault}
-use Rattle.operator_meaning.specs.Scripts.{Has, Fails, states, set_in, with_at}
+use Rattle.operator_meaning.specs.Scripts.{Fails, states, set_in, with_at}
 use Rattle.operator_meaning.proofs.ScriptLemmas.{with_at-same, with_at-other}
 use Rattle.transform_nodes.specs.declared.node.Node.{Node}
 use Rattle.transform_nodes.specs.declared.work.DoneParts.{DoneParts}
@@ -24,26 +24,25 @@ use Rattle.transform_nodes.specs.Nodes.{operand_on, StandsAs, DoneStandsFor, Fin
 use Rattle.round_journal.specs.declared.entry.Entry.{Entry}
 use Rattle.round_journal.specs.declared.entry.What.{What}
 use Rattle.round_journal.specs.declared.entry.What.TheVariants.{Returned, GaveUp}
-use Rattle.round_journal.specs.Journals.{State, Status, Waiting, Out, Back, Spoiled, after_what, state_of, inputs, old_inputs, new_inputs, inputs_now, aside, IsThere, IsOutBy}
+use Rattle.round_journal.specs.Journals.{State, Status, Back, Spoiled, after_what, state_of, inputs, old_inputs, new_inputs, aside, IsThere, IsOutBy, MayCome}
+use Rattle.round_journal.specs.Counts.{IsOfStatement, IsNoRelease}
+use Rattle.round_journal.specs.Releases.{IsRelease}
 use Rattle.round_journal.specs.Stands.{DoneStands}
-use Rattle.round_journal.proofs.InputLemmas.{PrefixesInOrder-legal}
 use Rattle.round_journal.proofs.CountLemmas.{IsSpent-legal, aside-out, aside-less}
 use Rattle.round_journal.proofs.ReleaseLemmas.{IsRelease-stays}
 use Rattle.round_core.specs.declared.machine.Machine.{Machine}
-use Rattle.round_core.specs.declared.counts.Counts.{Counts}
 use Rattle.round_core.specs.declared.slot.Slot.{Slot}
 use Rattle.round_core.specs.declared.slot.Stage.{Stage}
 use Rattle.round_core.specs.declared.slot.Stage.TheVariants as stage
-use Rattle.round_core.specs.Kept.{Scene, scene_of, IsHome, NewsKept, LeadsThere, BackKept, StageKept, SlotKept, SlotsKept, CountsKept, Within, Sound, KeptMachine, seen_of}
-use Rattle.round_core.specs.Seen.{Seen, seen_with}
+use Rattle.round_core.specs.Kept.{Scene, scene_of, IsHome, NewsKept, NoneWaits, BackKept, StageKept, SlotKept, SlotsKept, CountsKept, EarlierKept, Sound, KeptMachine, state_at}
 use Rattle.round_core.specs.Slots.{SameHome, HandedOn, NamesAt, NamesNone}
 use Rattle.round_core.specs.Steps.{OpenStill}
-use Rattle.round_core.proofs.KeptLemmas.{state_along, long_along, legal_along, seen_along}
-use Rattle.round_core.proofs.ClaimLemmas.{opened_of}
-use Rattle.round_core.proofs.Lists.{each_set, some_of}
+use Rattle.round_core.proofs.KeptLemmas.{state_along, GoesTo, within_less, in_order, earlier_stays}
+use Rattle.round_core.proofs.ClaimLemmas.{opened_of, none_waits_set, order_below}
+use Rattle.round_core.proofs.Lists.{each_set}
 use Rattle.round_core.proofs.MoveLemmas.{with_status, slot_moves, same_home, news_before}
 use Rattle.round_core.proofs.NameLemmas.{once_each-apart, one_place}
-use Rattle.round_core.proofs.SlotLemmas.{Opened, slot_kept, slot_sources, many}
+use Rattle.round_core.proofs.SlotLemmas.{many}
 
 -- ---- news
 
@@ -125,124 +124,126 @@ slots_back v slots mid i z new k p l es h = record {
 }
 
 pub record IsPut (a : Machine) (i : ℕ) (node : Node) (st : Stage) (new : Slot) : Type 0 where
-  pub sources : new.sources ≡ sources_of a.script i
+  pub sources : new.sources ≡ sources_of (state_at a).round.script i
   pub stage : new.stage ≡ st
   pub stamp : new.stamp ≡ a.counts.rounds
   pub node_is : new.node ≡ Some node
 
-back_kept : (a : Machine) (i : ℕ) (node : Node) (st : Stage) (new : Slot) (z : Status) → Sound a (state_of a.journal.items) → IsPut a i node st new → node.statement ≡ i → StandsAs a.script (old_inputs a.script (state_of a.journal.items)) Forget node → BackKept (moved (scene_of a.script (state_of a.journal.items)) i z) i new z
+back_kept : (a : Machine) (i : ℕ) (node : Node) (st : Stage) (new : Slot) (z : Status) → Sound a (state_at a) → IsPut a i node st new → node.statement ≡ i → StandsAs (state_at a).round.script (old_inputs (state_at a)) Forget node → BackKept (moved (scene_of (state_at a)) i z) i new z
 back_kept a i node st new z sound put en h =
-    let s : State = state_of a.journal.items in record {
+    let s : State = state_at a in record {
       place = with_at-same i z s.status;
       now = put.stamp ∙ sound.counts.rounds;
-      home = subst (λ (o : Option Node). IsHome a.script (old_inputs a.script s) i Forget o) (sym put.node_is) (en, h);
+      home = subst (λ (o : Option Node). IsHome s.round.script (old_inputs s) i Forget o) (sym put.node_is) (en, h);
     }
 
 -- what comes back
 pub record Comes (a : Machine) (n : ℕ) (i : ℕ) (node : Node) : Type 0 where
-  pub out : IsOutBy a.script (state_of a.journal.items) n i
+  pub out : IsOutBy (state_at a) n i
   pub number : node.statement ≡ i
-  pub stands : StandsAs a.script (old_inputs a.script (state_of a.journal.items)) Forget node
+  pub stands : StandsAs (state_at a).round.script (old_inputs (state_at a)) Forget node
 
-pub comes_with : (a : Machine) (n : ℕ) (d : DoneParts) → IsOutBy a.script (state_of a.journal.items) n d.statement → DoneStands a.script (state_of a.journal.items) d → Comes a n d.statement d.node × FinishFor a.script d.node (old_inputs a.script (state_of a.journal.items)) (new_inputs a.script (state_of a.journal.items)) d.finish
+pub comes_with : (a : Machine) (n : ℕ) (d : DoneParts) → IsOutBy (state_at a) n d.statement → DoneStands (state_at a) d → Comes a n d.statement d.node × FinishFor (state_at a).round.script d.node (old_inputs (state_at a)) (new_inputs (state_at a)) d.finish
 comes_with a n d out h =
-    let c = a.script in
-    let s : State = state_of a.journal.items in
-    let on : DoneStandsFor c d (old_inputs c s) (new_inputs c s) = subst (λ (q : ℕ). DoneStandsFor c d (old_inputs c s) (inputs c q s)) h.place.to_is (subst (λ (q : ℕ). DoneStandsFor c d (inputs c q s) (inputs c d.to s)) h.place.base_is h.on) in
+    let s : State = state_at a in
+    let c = s.round.script in
+    let on : DoneStandsFor c d (old_inputs s) (new_inputs s) = subst (λ (q : ℕ). DoneStandsFor c d (old_inputs s) (inputs q s)) h.place.to_is (subst (λ (q : ℕ). DoneStandsFor c d (inputs q s) (inputs d.to s)) h.place.base_is h.on) in
     (record { out = out; number = on.statement_is; stands = on.node_stands }, on.finish_is)
 
-pub running_of : (a : Machine) (n i : ℕ) → Sound a (state_of a.journal.items) → IsOutBy a.script (state_of a.journal.items) n i → a.counts.running ≡ true
+pub running_of : (a : Machine) (n i : ℕ) → Sound a (state_at a) → IsOutBy (state_at a) n i → a.counts.running ≡ true
 running_of a n i sound out = sound.counts.running ∙ out.open_round
 
-pub aside_two : (a : Machine) (n i : ℕ) → KeptMachine a → IsOutBy a.script (state_of a.journal.items) n i → 2 ≤ a.counts.aside
-aside_two a n i k out = let h = aside-out a.script (state_of a.journal.items) n i out (IsSpent-legal a.script a.journal.items k.within.legal) in omega (arith, h, k.sound.counts.aside)
+pub aside_two : (a : Machine) (n i : ℕ) → KeptMachine a → IsOutBy (state_at a) n i → 2 ≤ a.counts.aside
+aside_two a n i k out = let h = aside-out (state_at a) n i out (IsSpent-legal (arc_value a.first) a.journal.items k.within.legal) in omega (arith, h, k.sound.counts.aside)
 
-pub below_of : (a : Machine) (n i : ℕ) → Sound a (state_of a.journal.items) → IsOutBy a.script (state_of a.journal.items) n i → i < length a.slots.items
+pub below_of : (a : Machine) (n i : ℕ) → Sound a (state_at a) → IsOutBy (state_at a) n i → i < length a.slots.items
 below_of a n i sound out = let l = out.below in let m = sound.slots.many in omega (arith, l, m)
 
-within_back : (a b : Machine) (n i : ℕ) (w : What) → KeptMachine a → IsOutBy a.script (state_of a.journal.items) n i → b.script ≡ a.script → b.limits ≡ a.limits → b.journal.items ≡ a.journal.items ++ (record { by = n; what = w }) ∷ [] → vec_capacity a.journal ≤ vec_capacity b.journal → b.counts.aside ≡ a.counts.aside - 1 → b.counts.fields ≡ a.counts.fields → Rattle.round_journal.specs.Journals.MayCome a.script (state_of a.journal.items) n w → Within b
-within_back a b n i w k out es el ej room ea ef may =
-    let long = long_along a b.journal.items n w ej in
-    let two = aside_two a n i k out in
-    let m = k.within in
-    let entries : b.limits.entries ≡ a.limits.entries = ap (λ l. l.entries) el in
-    let fields : b.limits.fields ≡ a.limits.fields = ap (λ l. l.fields) el in record {
-      legal = subst (λ (q : Script). Rattle.round_journal.specs.Journals.Legal q b.journal.items) (sym es) (legal_along a b.journal.items n w ej m.legal may);
-      entries = subst (λ q. q ≤ Rattle.round_core.specs.declared.limits.TheConstants.ENTRY_LIMIT) (sym entries) m.entries;
-      fields = subst (λ q. q ≤ Rattle.round_core.specs.declared.limits.TheConstants.FIELD_LIMIT) (sym fields) m.fields;
-      fits = omega (arith, long, m.fits, two, ea, entries);
-      fields_fit = omega (arith, ef, m.fields_fit, fields);
-      room = omega (arith, long, m.room, room, two, ea);
-    }
+-- where the stages stay, what doesn't wait still doesn't
+still_none_waits : (slots mid : List Slot) (xs : List ℕ) → length mid ≡ length slots → ((j : ℕ) (d : Slot) → j < length slots → (get_or mid j d).stage ≡ (get_or slots j d).stage) → All (λ i. i < length slots) xs → NoneWaits slots xs → NoneWaits mid xs
+still_none_waits slots mid xs long same below h k e l d =
+    let j = get_or xs k e in
+    subst (λ (st : Stage). st ≢ stage.Waiting) (sym (same j d (below k e l))) (h k e l d)
 
-pub still_returned : (a : Machine) (j : Vec Entry Global) (slots : Vec Slot Global) (mid : List Slot) (i n : ℕ) (node : Node) (st : Stage) (new : Slot) → KeptMachine a → Comes a n i node → Passed (scene_of a.script (state_of a.journal.items)) i Back a.slots.items mid → IsPut a i node st new
-    → (BackKept (moved (scene_of a.script (state_of a.journal.items)) i Back) i new Back → StageKept (moved (scene_of a.script (state_of a.journal.items)) i Back) i new st)
-    → slots.items ≡ set mid i new → j.items ≡ a.journal.items ++ (record { by = n; what = Returned i }) ∷ [] → vec_capacity a.journal ≤ vec_capacity j
-    → OpenStill (record a { journal = j; slots = slots; counts = record a.counts { aside = a.counts.aside - 1 } }) n
-still_returned a j slots mid i n node st new k come passed put stage_is es ej room =
-    let c = a.script in
-    let s : State = state_of a.journal.items in
-    let w : What = Returned i in
-    let t : State = after_what s n w in
-    let b : Machine = record a { journal = j; slots = slots; counts = record a.counts { aside = a.counts.aside - 1 } } in
-    let e : t ≡ state_of j.items = state_along a j.items n w ej in
+take_all_below : (P : ℕ → Type 0) (n : ℕ) (xs : List ℕ) → All P xs → All P (take n xs)
+take_all_below P n xs h k e l =
+    let long = length-take n xs in
+    subst P (sym (get_or-take n xs k e (omega (arith, l, long)))) (h k e (omega (arith, l, long)))
+
+-- what a work that is given back leaves of the machine
+abbrev pub back_machine : Machine → Vec Entry Global → Vec Slot Global → Bool → Machine
+back_machine a j slots spoiled = record a { journal = j; slots = slots; counts = record a.counts { spoiled = spoiled; aside = a.counts.aside - 1 } }
+
+pub record IsBackAs (a : Machine) (n i : ℕ) (w : What) (z : Status) (spoiled : Bool) : Type 0 where
+  pub statement : IsOfStatement w
+  pub none : IsNoRelease w
+  pub may : MayCome (state_at a) n w
+  pub state : after_what (state_at a) n w ≡ record (state_at a) { status = with_at i z (state_at a).status; spoiled = spoiled; spent = (state_at a).spent + 1; by = n }
+
+pub still_back : (a : Machine) (j : Vec Entry Global) (slots : Vec Slot Global) (mid : List Slot) (i n : ℕ) (node : Node) (st : Stage) (new : Slot) (w : What) (z : Status) (spoiled : Bool) → KeptMachine a → Comes a n i node → IsBackAs a n i w z spoiled → Passed (scene_of (state_at a)) i z a.slots.items mid → IsPut a i node st new → st ≢ stage.Waiting
+    → StageKept (moved (scene_of (state_at a)) i z) i new st
+    → slots.items ≡ set mid i new → j.items ≡ a.journal.items ++ (record { by = n; what = w }) ∷ [] → vec_capacity a.journal ≤ vec_capacity j
+    → OpenStill (back_machine a j slots spoiled) n
+still_back a j slots mid i n node st new w z spoiled k come how passed put moves stage_is es ej room =
+    let s : State = state_at a in
+    let t : State = record s { status = with_at i z s.status; spoiled = spoiled; spent = s.spent + 1; by = n } in
+    let b : Machine = back_machine a j slots spoiled in
+    let e : t ≡ state_of (arc_value a.first) j.items = sym how.state ∙ state_along a j.items n w ej in
     let old = k.sound.counts in
+    let scripts = k.sound.scripts in
+    let p = in_order a k.within in
     let going = come.out.open_round in
-    let o = opened_of a k.sound (running_of a n i k.sound come.out) in
+    let o = opened_of a k.within k.sound (running_of a n i k.sound come.out) in
     let l = below_of a n i k.sound come.out in
-    let here : StageKept (moved (scene_of c s) i Back) i new new.stage = subst (λ (z : Stage). StageKept (moved (scene_of c s) i Back) i new z) (sym put.stage) (stage_is (back_kept a i node st new Back k.sound put come.number come.stands)) in
-    let back : SlotsKept (scene_of c t) true (set mid i new) = slots_back (scene_of c s) a.slots.items mid i Back new o.kept passed l put.sources here in
-    let counts : CountsKept c b.counts t = record { accepted = old.accepted; fields = old.fields; base = old.base; published = old.published; rounds = old.rounds; running = old.running; dropped = old.dropped; spoiled = old.spoiled; to = old.to; aside = ap (λ m. m - 1) old.aside ∙ sym (aside-less c s n w tt going) } in
+    let two = aside_two a n i k come.out in
+    let here : StageKept (moved (scene_of s) i z) i new new.stage = subst (λ (q : Stage). StageKept (moved (scene_of s) i z) i new q) (sym put.stage) stage_is in
+    let back : SlotsKept (scene_of t) true (set mid i new) = slots_back (scene_of s) a.slots.items mid i z new o.kept passed l put.sources here in
+    let less : aside t ≡ aside s - 1 = ap aside (sym how.state) ∙ aside-less s n w how.statement going in
+    let counts : CountsKept b.counts t = record { accepted = old.accepted; fields = old.fields; newest = old.newest; published = old.published; rounds = old.rounds; script = old.script; base = old.base; running = old.running; dropped = old.dropped; spoiled = refl; to = old.to; aside = ap (λ m. m - 1) old.aside ∙ sym less } in
+    let order = s.round.script.order in
+    let none_wait : s.running ≡ true → NoneWaits (set mid i new) (take a.passed order) = λ r.
+    none_waits_set mid (take a.passed order) i new (let q = passed.many in omega (arith, l, q)) (λ q. moves (sym put.stage ∙ q))
+    (still_none_waits a.slots.items mid (take a.passed order) passed.many (λ m d q. (passed.homes m d q).1) (take_all_below (λ m. m < length a.slots.items) a.passed order (order_below a k.within k.sound)) (k.sound.passed r)) in
     let sound : Sound b t = record {
-      checked = k.sound.checked;
+      scripts = record { first = scripts.first; newest = scripts.newest; round = scripts.round };
       counts = counts;
       inputs = k.sound.inputs;
-      slots = subst (λ (r : Bool). SlotsKept (scene_of c t) r slots.items) (sym going) (subst (λ (q : List Slot). SlotsKept (scene_of c t) true q) (sym es) back);
-      release = IsRelease-stays c s n w a.latest (PrefixesInOrder-legal c a.journal.items k.within.legal) tt k.sound.release;
+      slots = subst (λ (r : Bool). SlotsKept (scene_of t) r slots.items) (sym going) (subst (λ (q : List Slot). SlotsKept (scene_of t) true q) (sym es) back);
+      passed = λ r. subst (λ (q : List Slot). NoneWaits q (take a.passed order)) (sym es) (none_wait r);
+      release = subst (λ (u : State). IsRelease u a.latest) how.state (IsRelease-stays s n w a.latest p how.none k.sound.release);
+      earlier = subst (λ (u : State). EarlierKept u a.earlier.items) how.state (earlier_stays s n w a.earlier.items p how.none k.sound.earlier);
+      earlier_fit = k.sound.earlier_fit;
       pages = k.sound.pages;
       pages_fit = λ r. let fit = k.sound.pages_fit r in let same : length slots.items ≡ length a.slots.items = ap length es ∙ length-set mid i new ∙ passed.many in omega (arith, fit, same);
     } in
+    let goes : GoesTo a n w b = record { first = refl; limits = refl; items = ej; may = how.may } in
     record {
-      within = within_back a b n i w k come.out refl refl ej room refl refl come.out;
+      within = within_less a b n w k.within goes (omega (arith, two)) refl refl room;
       sound = subst (λ (u : State). Sound b u) e sound;
       running = subst (λ (u : State). u.running ≡ true) e going;
       same_caller = subst (λ (u : State). u.by ≡ n) e refl;
     }
 
+pub still_returned : (a : Machine) (j : Vec Entry Global) (slots : Vec Slot Global) (mid : List Slot) (i n : ℕ) (node : Node) (st : Stage) (new : Slot) → KeptMachine a → Comes a n i node → Passed (scene_of (state_at a)) i Back a.slots.items mid → IsPut a i node st new → st ≢ stage.Waiting
+    → (BackKept (moved (scene_of (state_at a)) i Back) i new Back → StageKept (moved (scene_of (state_at a)) i Back) i new st)
+    → slots.items ≡ set mid i new → j.items ≡ a.journal.items ++ (record { by = n; what = Returned i }) ∷ [] → vec_capacity a.journal ≤ vec_capacity j
+    → OpenStill (back_machine a j slots a.counts.spoiled) n
+still_returned a j slots mid i n node st new k come passed put moves stage_is es ej room =
+    let w : What = Returned i in
+    let spoiled = k.sound.counts.spoiled in
+    let how : IsBackAs a n i w Back a.counts.spoiled = record { statement = tt; none = tt; may = come.out; state = ap (λ (q : Bool). let u : State = record (state_at a) { status = with_at i Back (state_at a).status; spoiled = q; spent = (state_at a).spent + 1; by = n } in u) (sym spoiled) } in
+    still_back a j slots mid i n node st new w Back a.counts.spoiled k come how passed put moves (stage_is (back_kept a i node st new Back k.sound put come.number come.stands)) es ej room
+
 pub still_gave_up : (a : Machine) (j : Vec Entry Global) (slots : Vec Slot Global) (i n : ℕ) (node : Node) (new : Slot) → KeptMachine a → Comes a n i node → IsPut a i node stage.Spoiled new
     → slots.items ≡ set a.slots.items i new → j.items ≡ a.journal.items ++ (record { by = n; what = GaveUp i }) ∷ [] → vec_capacity a.journal ≤ vec_capacity j
-    → OpenStill (record a { journal = j; slots = slots; counts = record a.counts { spoiled = true; aside = a.counts.aside - 1 } }) n
+    → OpenStill (back_machine a j slots true) n
 still_gave_up a j slots i n node new k come put es ej room =
-    let c = a.script in
-    let s : State = state_of a.journal.items in
+    let s : State = state_at a in
     let w : What = GaveUp i in
-    let t : State = after_what s n w in
-    let b : Machine = record a { journal = j; slots = slots; counts = record a.counts { spoiled = true; aside = a.counts.aside - 1 } } in
-    let e : t ≡ state_of j.items = state_along a j.items n w ej in
-    let old = k.sound.counts in
-    let going = come.out.open_round in
-    let o = opened_of a k.sound (running_of a n i k.sound come.out) in
-    let l = below_of a n i k.sound come.out in
-    let passed : Passed (scene_of c s) i Spoiled a.slots.items a.slots.items = record {
+    let how : IsBackAs a n i w Spoiled true = record { statement = tt; none = tt; may = come.out; state = refl } in
+    let passed : Passed (scene_of s) i Spoiled a.slots.items a.slots.items = record {
       many = refl;
       homes = λ m d q. (same_home (get_or a.slots.items m d), refl);
-      news = λ m d q h. news_before (scene_of c s) i Spoiled (get_or a.slots.items m d).news.items (get_or a.slots.items m d).sources (λ x. cc x) h;
+      news = λ m d q h. news_before (scene_of s) i Spoiled (get_or a.slots.items m d).news.items (get_or a.slots.items m d).sources (λ x. cc x) h;
     } in
-    let here : StageKept (moved (scene_of c s) i Spoiled) i new new.stage = subst (λ (z : Stage). StageKept (moved (scene_of c s) i Spoiled) i new z) (sym put.stage) (back_kept a i node stage.Spoiled new Spoiled k.sound put come.number come.stands) in
-    let back : SlotsKept (scene_of c t) true (set a.slots.items i new) = slots_back (scene_of c s) a.slots.items a.slots.items i Spoiled new o.kept passed l put.sources here in
-    let counts : CountsKept c b.counts t = record { accepted = old.accepted; fields = old.fields; base = old.base; published = old.published; rounds = old.rounds; running = old.running; dropped = old.dropped; spoiled = refl; to = old.to; aside = ap (λ m. m - 1) old.aside ∙ sym (aside-less c s n w tt going) } in
-    let sound : Sound b t = record {
-      checked = k.sound.checked;
-      counts = counts;
-      inputs = k.sound.inputs;
-      slots = subst (λ (r : Bool). SlotsKept (scene_of c t) r slots.items) (sym going) (subst (λ (q : List Slot). SlotsKept (scene_of c t) true q) (sym es) back);
-      release = IsRelease-stays c s n w a.latest (PrefixesInOrder-legal c a.journal.items k.within.legal) tt k.sound.release;
-      pages = k.sound.pages;
-      pages_fit = λ r. let fit = k.sound.pages_fit r in let same : length slots.items ≡ length a.slots.items = ap length es ∙ length-set a.slots.items i new in omega (arith, fit, same);
-    } in
-    record {
-      within = within_back a b n i w k come.out refl refl ej room refl refl come.out;
-      sound = subst (λ (u : State). Sound b u) e sound;
-      running = subst (λ (u : State). u.running ≡ true) e going;
-      same_caller = subst (λ (u : State). u.by ≡ n) e refl;
-    }
+    still_back a j slots a.slots.items i n node stage.Spoiled new w Spoiled true k come how passed put (λ q. cc q) (back_kept a i node stage.Spoiled new Spoiled k.sound put come.number come.stands) es ej room

@@ -4,6 +4,7 @@ mod JudgeLemmas
 mod SlotLemmas
 mod MoveLemmas
 mod ClaimLemmas
+mod ReleaseLemmas
 mod EndLemmas
 mod NameLemmas
 mod GiveLemmas
@@ -14,3 +15,5 @@ mod NextLemmas
 mod StepLemmas
 mod RunLemmas
 mod AnswerLemmas
+mod RescriptLemmas
+mod WholeLemmas

@@ -1,12 +1,10 @@
 -- How slots are kept as statements move on.
-use Rattle.std.proofs.Common.{◌≡◌, ◌≢◌, ◌⊎◌, inl, inr, ℕ, zero, suc, ◌+◌, ◌<◌, ◌≤◌, Bool, true, false, List, [], ◌∷◌, ◌++◌, length, get_or, Option, Some, None, sym, ◌∙◌, ap, refl, arith, subst, set, map}
-use Rattle.std.specs.Option.{is_some, IsSomeAnd}
+use Rattle.std.proofs.Common.{◌≡◌, ◌≢◌, inl, inr, ℕ, suc, ◌<◌, true, List, [], ◌∷◌, length, get_or, Option, sym, ◌∙◌, ap, refl, arith, subst, map}
 use Rattle.std.specs.Arc.{arc_value}
 use Rattle.std.specs.List.{All, AllZip}
 use Rattle.std.specs.declared.sync.Arc.{Arc}
 use Rattle.std.specs.declared.alloc.Global.{Global}
 use Rattle.std.proofs.lemmas.Bool.{cases_eq}
-use Rattle.std.proofs.lemmas.List.Elements.{All-head, All-tail}
 use Rattle.point_sets.specs.DataSets.{DataSet}
 use Rattle.point_sets.specs.Changes.{Changes}
 use Rattle.checked_trees.specs.declared.tree.Source.{Source}
@@ -17,13 +15,12 @@ use Rattle.operator_meaning.proofs.ScriptLemmas.{with_at-same, with_at-other}
 use Rattle.transform_nodes.specs.declared.node.Node.{Node}
 use Rattle.transform_nodes.specs.declared.work.Settle.{Settle}
 use Rattle.transform_nodes.specs.declared.work.Settle.TheVariants.{Forget, Apply}
-use Rattle.round_journal.specs.Journals.{State, Status, Waiting, Out, Back, Spoiled, IsThere}
+use Rattle.round_journal.specs.Journals.{Status, Waiting, Back, Spoiled, IsThere}
 use Rattle.round_core.specs.declared.slot.Slot.{Slot}
 use Rattle.round_core.specs.declared.slot.Stage.{Stage}
 use Rattle.round_core.specs.declared.slot.Stage.TheVariants as stage
 use Rattle.round_core.specs.Slots.{SameHome, settle_by}
-use Rattle.round_core.specs.Kept.{Scene, IsHome, NewsKept, LeadsThere, WaitingKept, ResultKept, BackKept, StageKept, PlaceKept, SlotKept, SlotsKept}
-use Rattle.round_core.proofs.Lists.{each_set}
+use Rattle.round_core.specs.Kept.{Scene, IsHome, NewsKept, BackKept, StageKept, SlotKept}
 
 abbrev pub with_status : Scene → (ℕ → Status) → Scene
 with_status v f = record v { status = f }

@@ -1,7 +1,7 @@
 -- Statements that name a result.
-use Rattle.std.proofs.Common.{◌≡◌, ◌≢◌, ◌⊎◌, inl, inr, ℕ, zero, suc, ◌+◌, ◌<◌, ◌≤◌, Bool, true, false, not, cond, ◌&&◌, List, [], ◌∷◌, ◌++◌, length, get_or, Option, Some, None, sym, ◌∙◌, ap, refl, arith, subst, filter, eqb}
+use Rattle.std.proofs.Common.{◌≡◌, ◌≢◌, inl, inr, ℕ, zero, suc, ◌+◌, ◌<◌, Bool, true, false, not, cond, ◌&&◌, List, [], ◌∷◌, length, get_or, Some, sym, ◌∙◌, ap, refl, arith, filter}
 use Rattle.std.specs.Prelude.{count_by}
-use Rattle.std.specs.List.{All, AllPairs, Contains, list_all, slice_get}
+use Rattle.std.specs.List.{All, AllPairs, list_all, slice_get}
 use Rattle.std.proofs.lemmas.Bool.{cases_Bool, cases_eq, eq-eqb, ne_eqb, eqb-true}
 use Rattle.std.proofs.lemmas.List.Elements.{All-nil, All-head, All-tail, All-cons, All-weaker}
 use Rattle.std.proofs.lemmas.List.Kept.{AllPairs-filter}
@@ -10,7 +10,7 @@ use Rattle.checked_trees.specs.declared.script.CheckedStatement.{CheckedStatemen
 use Rattle.checked_trees.specs.declared.tree.Source.{Source}
 use Rattle.checked_trees.specs.declared.tree.Source.TheVariants.{Input, Result as ResultOf}
 use Rattle.checked_trees.specs.Expressions.{expression_of}
-use Rattle.checked_trees.specs.Scripts.{Script, is_same, once_each, names_in, names_of, sources_of, names_result, uses_of}
+use Rattle.checked_trees.specs.Scripts.{Script, is_same, once_each, names_in, sources_of, names_result, uses_of}
 use Rattle.operator_meaning.proofs.ScriptLemmas.{names_of-there}
 use Rattle.round_core.specs.declared.slot.Slot.{Slot}
 use Rattle.round_core.specs.Slots.{names_it, NamesAt, NamesNone}

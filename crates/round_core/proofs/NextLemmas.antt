@@ -1,15 +1,13 @@
 -- Shares that are put in place.
-use Rattle.std.proofs.Common.{◌≡◌, ◌≢◌, ℕ, zero, suc, ◌+◌, ◌<◌, ◌≤◌, List, [], ◌∷◌, ◌++◌, length, get_or, set, Result, Ok, Err, sym, ◌∙◌, ap, refl, arith, subst, inl, inr}
+use Rattle.std.proofs.Common.{◌≡◌, ◌≢◌, ℕ, zero, suc, ◌<◌, List, [], ◌∷◌, ◌++◌, length, get_or, set, sym, ◌∙◌, ap, refl, arith, subst, inl, inr}
 use Rattle.std.specs.List.{All}
-use Rattle.std.specs.Prelude.{IfOk}
 use Rattle.std.specs.FinMap.{empty}
 use Rattle.std.proofs.lemmas.Bool.{cases_eq}
 use Rattle.std.proofs.lemmas.List.{length-set, get_or-set_same, get_or-set_other}
 use Rattle.std.proofs.lemmas.List.Elements.{All-nil, All-cons, All-head, All-tail}
 use Rattle.std.proofs.lemmas.Option.{unwrap_or-slice_get}
-use Rattle.data_model.specs.Deltas.{Leads, apply}
+use Rattle.data_model.specs.Deltas.{apply}
 use Rattle.point_sets.specs.DataSets.{DataSet}
-use Rattle.point_sets.specs.Changes.{Changes}
 use Rattle.revision_judge.specs.declared.ruling.Share.{Share}
 use Rattle.revision_judge.specs.Judging.{input, inputs_with}
 use Rattle.revision_judge.specs.Shares.{IsShare, AreShares}
@@ -22,7 +20,7 @@ use Rattle.round_core.specs.declared.runs.Runs.{Runs}
 use Rattle.round_core.specs.Inputs.{LeadsThrough, LeadAlike, LeadsOrStays, ChangeKept, InputsKept, changes_in, HasInput, IsNext, AreNexts}
 use Rattle.round_core.proofs.RunLemmas.{more_through}
 
-at_input : (xs : List DataSet) (n : ℕ) → input xs n ≡ get_or xs n empty
+pub at_input : (xs : List DataSet) (n : ℕ) → input xs n ≡ get_or xs n empty
 at_input xs n = unwrap_or-slice_get xs n empty
 
 pub kept_take : (bases tos nows : List DataSet) (a b : Inputs) (n : ℕ) (next : DataSet) (change : InputChange) (newer : Runs) → InputsKept bases tos nows a → n < length a.sets.items → n < length a.changes.items → b.sets.items ≡ set a.sets.items n next → b.changes.items ≡ set a.changes.items n (record change { newer = newer }) → change ≡ get_or a.changes.items n change → LeadsThrough (changes_in newer) (input tos n) next → InputsKept bases tos (inputs_with nows n next) b

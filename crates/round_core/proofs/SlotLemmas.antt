@@ -1,22 +1,21 @@
 -- What the slots say of the statements of an open round.
-use Rattle.std.proofs.Common.{◌≡◌, ◌≢◌, ◌⊎◌, inl, inr, ℕ, zero, suc, ◌+◌, ◌<◌, ◌≤◌, Bool, true, false, List, [], ◌∷◌, ◌++◌, length, get_or, Option, Some, None, sym, ◌∙◌, ap, refl, arith, subst, set, map}
+use Rattle.std.proofs.Common.{◌≡◌, ℕ, ◌<◌, true, false, List, length, get_or, Option, Some, None, sym, ap, refl, arith, subst}
 use Rattle.std.specs.Option.{is_some, IsSomeAnd}
 use Rattle.std.specs.List.{All, slice_get}
 use Rattle.std.proofs.lemmas.List.Elements.{All-weaker}
 use Rattle.std.proofs.lemmas.Option.{slice_get_within}
-use Rattle.std.proofs.lemmas.Bool.{cases_eq}
-use Rattle.point_sets.specs.DataSets.{DataSet}
 use Rattle.checked_trees.specs.declared.tree.Source.{Source}
 use Rattle.checked_trees.specs.declared.tree.Source.TheVariants.{Input, Result as ResultOf}
 use Rattle.checked_trees.specs.Scripts.{Script, IsChecked, sources_of, structure_of_source}
-use Rattle.operator_meaning.specs.Scripts.{Has, Fails, states, set_in, with_at}
-use Rattle.round_journal.specs.Journals.{State, Status, Waiting, Out, Back, Spoiled, new_inputs, IsThere, Ready, NoneReady, NoneOut, Over}
+use Rattle.operator_meaning.specs.Scripts.{states, set_in}
+use Rattle.round_journal.specs.Counts.{IsOfProduction}
+use Rattle.round_journal.specs.Journals.{State, Waiting, Out, Back, new_inputs, IsThere, Ready, NoneReady, Over}
 use Rattle.round_journal.proofs.ScriptLemmas.{sources_of-all, names_of-typed}
 use Rattle.round_core.specs.declared.slot.Slot.{Slot}
 use Rattle.round_core.specs.declared.slot.Stage.{Stage}
 use Rattle.round_core.specs.declared.slot.Stage.TheVariants as stage
 use Rattle.round_core.specs.Slots.{IsRight, ThereIn, ReadyIn, AllStill}
-use Rattle.round_core.specs.Kept.{Scene, scene_of, StageKept, PlaceKept, SlotKept, SlotsKept}
+use Rattle.round_core.specs.Kept.{Scene, scene_of, StageKept, SlotsKept}
 use Rattle.round_core.proofs.Lists.{some_of}
 
 -- a name within the script
@@ -83,14 +82,17 @@ status_out v j n slot stage.Spoiled k w = let e = k.place in cc (e, w)
 
 -- ---- all slots of an open round
 
-pub record Opened (c : Script) (s : State) (slots : List Slot) : Type 0 where
-  pub checked : IsChecked c
+pub record Opened (s : State) (slots : List Slot) : Type 0 where
+  pub agrees : IsOfProduction s s.round.script
   pub running : s.running ≡ true
-  pub kept : SlotsKept (scene_of c s) true slots
+  pub kept : SlotsKept (scene_of s) true slots
 
-module _ (c : Script) (s : State) (slots : List Slot) (o : Opened c s slots) where
+module _ (s : State) (slots : List Slot) (o : Opened s slots) where
+  abbrev c : Script
+  c = s.round.script
+
   abbrev v : Scene
-  v = scene_of c s
+  v = scene_of s
 
   pub many : length slots ≡ length c.statements
   many = o.kept.many
@@ -101,39 +103,39 @@ module _ (c : Script) (s : State) (slots : List Slot) (o : Opened c s slots) whe
   pub slot_sources : (i : ℕ) (d : Slot) → i < length slots → (get_or slots i d).sources ≡ sources_of c i
   slot_sources i d l = (o.kept.each i d l).sources
 
-  there_of : (n : Source) → ThereIn slots n → IsThere c s.status (new_inputs c s) n
+  there_of : (n : Source) → ThereIn slots n → IsThere c s.status (new_inputs s) n
   there_of (Input n) h = tt
   there_of (ResultOf j) h = let d = some_of slots j h.0 in right_back v j (get_or slots j d) (get_or slots j d).stage (slot_kept j d h.0) (h.1 d)
 
-  there_in : (n : Source) → IsTypedName c n → IsThere c s.status (new_inputs c s) n → ThereIn slots n
+  there_in : (n : Source) → IsTypedName c n → IsThere c s.status (new_inputs s) n → ThereIn slots n
   there_in (Input n) typed h = tt
   there_in (ResultOf j) typed h =
       let l : j < length slots = omega (arith, many, result_below c j typed) in
       (l, λ d. back_right v j (get_or slots j d) (get_or slots j d).stage (slot_kept j d l) h.0 h.1)
 
   -- what the slots say is ready is ready
-  pub ready_of : (i : ℕ) → ReadyIn slots i → Ready c s i
+  pub ready_of : (i : ℕ) → ReadyIn slots i → Ready s i
   ready_of i h =
       let d = some_of slots i h.below in record {
         below = omega (arith, h.below, many);
         waits = waiting_status v i (get_or slots i d) (get_or slots i d).stage (slot_kept i d h.below) (h.waits d);
-        operands = All-weaker (ThereIn slots) (IsThere c s.status (new_inputs c s)) there_of (sources_of c i) (subst (λ (ns : List Source). All (ThereIn slots) ns) (slot_sources i d h.below) (h.operands d));
+        operands = All-weaker (ThereIn slots) (IsThere c s.status (new_inputs s)) there_of (sources_of c i) (subst (λ (ns : List Source). All (ThereIn slots) ns) (slot_sources i d h.below) (h.operands d));
       }
 
-  pub ready_in : (i : ℕ) → Ready c s i → ReadyIn slots i
+  pub ready_in : (i : ℕ) → Ready s i → ReadyIn slots i
   ready_in i h =
       let l : i < length slots = omega (arith, h.below, many) in
-      let typed = sources_typed c i o.checked in record {
+      let typed = sources_typed c i o.agrees.checked in record {
         below = l;
         waits = λ d. status_waiting v i (get_or slots i d) (get_or slots i d).stage (slot_kept i d l) h.waits;
         operands = λ d. subst (λ (ns : List Source). All (ThereIn slots) ns) (sym (slot_sources i d l)) (λ k e m. there_in (get_or (sources_of c i) k e) (typed k e m) (h.operands k e m));
       }
 
-  pub none_ready_of : ((i : ℕ) → ¬ (ReadyIn slots i)) → NoneReady c s
+  pub none_ready_of : ((i : ℕ) → ¬ (ReadyIn slots i)) → NoneReady s
   none_ready_of h i ready = h i (ready_in i ready)
 
   -- no statement is out or ready where the round is over
-  pub over_of : AllStill slots → Over c s
+  pub over_of : AllStill slots → Over s
   over_of still = record {
     open_still = o.running;
     none_ready = none_ready_of still.none_ready;
@@ -143,7 +145,7 @@ module _ (c : Script) (s : State) (slots : List Slot) (o : Opened c s slots) whe
         still.none_out i d m (status_out v i n (get_or slots i d) (get_or slots i d).stage (slot_kept i d m) e);
   }
 
-  pub still_of : Over c s → AllStill slots
+  pub still_of : Over s → AllStill slots
   still_of over = record {
     none_out = λ i d l e. let h = out_status v i (get_or slots i d) (get_or slots i d).stage (slot_kept i d l) e in over.none_out i h.0 (omega (arith, l, many)) h.1;
     none_ready = λ i h. over.none_ready i (ready_of i h);

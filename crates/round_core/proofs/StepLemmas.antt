@@ -1,9 +1,7 @@
 -- Steps of loops.
-use Rattle.std.proofs.Common.{◌≡◌, ◌≢◌, ◌⊎◌, inl, inr, ℕ, zero, suc, ◌+◌, ◌<◌, ◌≤◌, Bool, true, false, cond, List, [], ◌∷◌, ◌++◌, length, get_or, take, drop, map, Option, Some, None, Result, Ok, Err, Vec, set, sym, ◌∙◌, ap, refl, arith, subst, length-append, append_assoc}
+use Rattle.std.proofs.Common.{◌≡◌, inl, inr, ℕ, zero, suc, ◌+◌, ◌<◌, ◌≤◌, Bool, true, cond, List, [], ◌∷◌, ◌++◌, length, get_or, take, drop, map, Option, Some, None, Result, Ok, Err, Vec, sym, ◌∙◌, ap, refl, arith, subst, length-append, append_assoc}
 use Rattle.std.specs.Prelude.{count_by, IfOk, OnErr}
-use Rattle.std.proofs.lemmas.Bool.{cases_eq}
 use Rattle.std.proofs.lemmas.List.{length-set, get_or-set_same, get_or-set_other, set-get_or}
-use Rattle.std.proofs.lemmas.Option.{unwrap_or-slice_get}
 use Rattle.std.specs.Arc.{arc_value}
 use Rattle.std.specs.FinMap.{empty}
 use Rattle.std.specs.List.{All, Contains, slice_get}
@@ -26,10 +24,8 @@ use Rattle.round_core.proofs.Lists.{get_or_any}
 use Rattle.round_core.specs.declared.inputs.InputChange.{InputChange}
 use Rattle.round_core.specs.declared.slot.Slot.{Slot}
 use Rattle.round_core.specs.declared.slot.Stage.TheVariants as stage
-use Rattle.round_core.specs.declared.inputs.Inputs.{Inputs}
-use Rattle.round_core.specs.declared.runs.Runs.{Runs}
-use Rattle.round_core.specs.Inputs.{LeadsThrough, LeadsOrStays, ChangeKept, InputsKept, Carries, Starts}
-use Rattle.round_core.specs.Slots.{SameHome, HandedOn, Remain, names_it, pages_by, ReadyIn, FirstReadyIn}
+use Rattle.round_core.specs.Inputs.{LeadsThrough, LeadsOrStays, ChangeKept, Carries, Starts}
+use Rattle.round_core.specs.Slots.{SameHome, HandedOn, Remain, pages_by, ReadyIn, FirstReadyIn}
 use Rattle.round_core.specs.Steps.{IsFirstNews, AreFirstNews, IsPrepared}
 
 -- ---- changes of inputs
@@ -46,7 +42,7 @@ first_none changes n d change ed ec none change' x y there leads =
 pub first_at : (changes : List InputChange) (x : Arc Changes Global) (sources : List Source) (n : ℕ) (d e : Source) → n < length sources → IsFirstNews changes x (get_or sources n d) → IsFirstNews changes x (get_or sources n e)
 first_at changes x sources n d e l h = subst (λ (s : Source). IsFirstNews changes x s) (get_or_any sources n d e l) h
 
-starts_older : (x z : DataSet) (delta : Changes) (o : Option (Arc Changes Global)) → Rattle.std.specs.Option.IsSomeAnd o (λ d. arc_value d ≡ delta) → Leads delta x z → LeadsOrStays x z o
+pub starts_older : (x z : DataSet) (delta : Changes) (o : Option (Arc Changes Global)) → Rattle.std.specs.Option.IsSomeAnd o (λ d. arc_value d ≡ delta) → Leads delta x z → LeadsOrStays x z o
 starts_older x z delta None h l = absurd h
 starts_older x z delta (Some d) h l = subst (λ (q : Changes). Leads q x z) (sym h) l
 

@@ -1,16 +1,21 @@
 -- What the calls of a production answer (docs/language.md, "Rounds").
-use Rattle.std.specs.Prelude.{◌≡◌, ◌==◌, ◌||◌, ◌&&◌, ◌+◌, ℕ, zero, suc, Bool, true, false, not, nat_lt, min, List, length, Option, Some, None, if◌then◌else◌}
+use Rattle.std.specs.Prelude.{◌≡◌, ◌==◌, ◌||◌, ◌&&◌, ◌+◌, ℕ, zero, suc, Bool, true, false, not, nat_lt, min, length, Option, Some, None, if◌then◌else◌}
 use Rattle.point_sets.specs.declared.revision.Revision.{Revision}
 use Rattle.transform_nodes.specs.declared.work.Work.{Work}
 use Rattle.transform_nodes.specs.declared.work.Finish.{Finish}
 use Rattle.transform_nodes.specs.declared.work.Finish.TheVariants.{Right, Fault, GaveUp as FinishGaveUp}
-use Rattle.round_journal.specs.Journals.{State, Status, Waiting, Out, Back, Spoiled, fields_of, aside, round_need, FirstReady, IsOutBy, fault_said}
+use Rattle.std.specs.Arc.{arc_value}
+use Rattle.std.specs.declared.sync.Arc.{Arc}
+use Rattle.std.specs.declared.alloc.Global.{Global}
+use Rattle.checked_trees.specs.Scripts.{Script}
+use Rattle.round_journal.specs.Journals.{State, Status, Waiting, Out, Back, Spoiled, fields_of, aside, round_need, round_wrong, Over, FirstReady, IsOutBy, fault_said}
 use Rattle.round_journal.specs.declared.verdict.ScriptFault.{ScriptFault}
+use Rattle.operator_meaning.specs.Scripts.{ScriptWrong}
 use Rattle.round_journal.specs.Stands.{WorkStands}
 use Rattle.round_journal.specs.declared.entry.What.{What}
-use Rattle.round_journal.specs.declared.entry.What.TheVariants.{Claimed, Returned, GaveUp, Published, Failed, Dropped}
+use Rattle.round_journal.specs.declared.entry.What.TheVariants.{Rescripted, Claimed, Returned, GaveUp, Published, Failed, Dropped}
 use Rattle.round_core.specs.declared.limits.Full.{Full}
-use Rattle.round_core.specs.declared.limits.Full.TheVariants.{Entries, Fields}
+use Rattle.round_core.specs.declared.limits.Full.TheVariants.{Entries, Fields, Scripts}
 use Rattle.round_core.specs.declared.stops.OpenStop.{OpenStop}
 use Rattle.round_core.specs.declared.stops.OpenStop.TheVariants.{Running, NothingNew, Full as NoRoom}
 use Rattle.round_core.specs.declared.stops.Given.{Given}
@@ -35,11 +40,19 @@ or_else (Some full) other = Some full
 
 -- why a revision doesn't fit: first the entries, then the fields
 abbrev pub full_for : Seen → Revision → Option Full
-full_for p r = or_else (entries_wanting p (aside p.script (state_in p)) 1) (fields_wanting p r)
+full_for p r = or_else (entries_wanting p (aside (state_in p)) 1) (fields_wanting p r)
 
--- nothing was accepted yet, or the last round had all accepted and was not dropped
-abbrev pub nothing_new : ℕ → ℕ → Bool → Bool
-nothing_new accepted to dropped = accepted == 0 || (to == accepted && not dropped)
+-- the scripts that there were, where they are as many as may be
+abbrev pub scripts_wanting : Seen → Option Full
+scripts_wanting p = if nat_lt p.limits.scripts ((state_in p).newest.number + 2) then Some (Scripts ((state_in p).newest.number + 1)) else None
+
+-- why a script can't be replaced, but for want of memory: first the scripts, then the entries
+abbrev pub cannot_rescript : Seen → Option Full
+cannot_rescript p = or_else (scripts_wanting p) (entries_wanting p (aside (state_in p)) 1)
+
+-- there is nothing to be worked out: nothing was accepted yet and the script is the first one; or the last round had all accepted and the newest script, and wasn't dropped
+abbrev pub nothing_new : State → Bool
+nothing_new s = (length s.accepted == 0 && s.newest.number == 0) || (s.to == length s.accepted && not s.dropped && s.round.number == s.newest.number)
 
 abbrev pub no_room : Option Full → Option OpenStop
 no_room None = None
@@ -49,8 +62,8 @@ no_room (Some full) = Some (NoRoom full)
 abbrev pub cannot_open : Seen → Option OpenStop
 cannot_open p =
     if (state_in p).running then Some (Running (state_in p).rounds)
-    else if nothing_new (length (state_in p).accepted) (state_in p).to (state_in p).dropped then Some (NothingNew (length (state_in p).accepted))
-    else no_room (entries_wanting p 0 (round_need p.script))
+    else if nothing_new (state_in p) then Some (NothingNew (length (state_in p).accepted))
+    else no_room (entries_wanting p 0 (round_need (state_in p).newest.script))
 
 abbrev pub one_if_out : Status → ℕ
 one_if_out Waiting = 0
@@ -65,10 +78,17 @@ works_out (suc n) status = works_out n status + one_if_out (status n)
 
 -- caller n has the work of the first ready statement, which stands for the journal after it
 pub record Claims (old : Seen) (n : ℕ) (w : Work) (new : Seen) : Type 0 where
-  pub first : FirstReady old.script (state_in old) old.script.order w.statement
+  pub first : FirstReady (state_in old) (state_in old).round.script.order w.statement
   pub entry : new ≡ seen_with old n (Claimed w.statement)
-  pub out : IsOutBy new.script (state_in new) n w.statement
-  pub stands : WorkStands new.script (state_in new) w
+  pub out : IsOutBy (state_in new) n w.statement
+  pub stands : WorkStands (state_in new) w
+
+-- the script is in force for the next round, and this is its number
+pub record Replaces (old : Seen) (n : ℕ) (c : Script) (k : ℕ) (new : Seen) : Type 0 where
+  pub number_is : k ≡ (state_in old).newest.number + 1
+  pub script : Arc Script Global
+  pub script_is : arc_value script ≡ c
+  pub entry : new ≡ seen_with old n (Rescripted script)
 
 -- the entry of a work that is given back
 abbrev pub given_what : Finish → ℕ → What
@@ -76,9 +96,25 @@ given_what (Right deltas points pages) i = Returned i
 given_what (Fault kept told) i = Returned i
 given_what FinishGaveUp i = GaveUp i
 
--- what giving back answers, and the journal after it: the entry of the work, and where the round ended its end after it; the fault that is told says what the one in the journal says
+-- the journal after giving back: the entry of the work, and where the round ended its end after it; the fault that is told says what the one in the journal does
 abbrev pub GivesSo : Seen → ℕ → What → Given → Seen → Type 0
 GivesSo old n w Counted new = new ≡ seen_with old n w
-GivesSo old n w (GivenPublished k) new = (new ≡ seen_with (seen_with old n w) n (Published (state_in old).to)) × (k ≡ (state_in old).number + 1)
+GivesSo old n w (GivenPublished k) new = new ≡ seen_with (seen_with old n w) n (Published (state_in old).to)
 GivesSo old n w (GivenFailed told) new = (kept : ScriptFault) × (fault_said told ≡ fault_said kept) × (new ≡ seen_with (seen_with old n w) n (Failed (state_in old).to kept))
 GivesSo old n w GivenDropped new = new ≡ seen_with (seen_with old n w) n (Dropped (state_in old).to)
+
+-- what the journal says with the entry of a work that is given back
+abbrev pub state_given : Seen → ℕ → What → State
+state_given old n w = state_in (seen_with old n w)
+
+-- the round is over, and a statement was given up
+abbrev pub EndsDropped : State → Type 0
+EndsDropped s = Over s × (s.spoiled ≡ true)
+
+-- none was given up, and the script is in bounds on the round's inputs
+abbrev pub EndsPublished : State → Type 0
+EndsPublished s = Over s × (s.spoiled ≡ false) × (round_wrong s ≡ None)
+
+-- none was given up, and the script has this fault there
+abbrev pub EndsFailed : State → ScriptWrong → Type 0
+EndsFailed s wrong = Over s × (s.spoiled ≡ false) × (round_wrong s ≡ Some wrong)

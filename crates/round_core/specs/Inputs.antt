@@ -52,6 +52,11 @@ pub record AllCarry (changes next : List InputChange) : Type 0 where
   pub many : length next ≡ length changes
   pub each : (i : ℕ) (d e : InputChange) → i < length changes → Carries (slice_index_or changes i d) (slice_index_or next i e)
 
+-- each input's change leads from no points to what it is now, and there is none from there
+pub record AllBegin (nows : List DataSet) (changes : List InputChange) : Type 0 where
+  pub many : length changes ≡ length nows
+  pub each : (n : ℕ) (d : InputChange) → n < length nows → ChangeKept empty (input nows n) (input nows n) (slice_index_or changes n d)
+
 -- the change as the round is published
 abbrev pub closed : InputChange → InputChange
 closed change = record change { older = None }

@@ -1,5 +1,5 @@
 -- What a production keeps of its journal.
-use Rattle.std.specs.Prelude.{◌≡◌, ◌≢◌, ◌≤◌, ◌<◌, ◌+◌, ℕ, Bool, true, false, List, [], length, Option, Some, None, vec_capacity, slice_get, slice_index_or}
+use Rattle.std.specs.Prelude.{◌≡◌, ◌≢◌, ◌≤◌, ◌<◌, ◌+◌, ◌-◌, ℕ, Bool, true, false, List, [], length, take, min, Option, Some, vec_capacity, slice_get, slice_index_or}
 use Rattle.std.specs.Option.{IsSomeAnd}
 use Rattle.std.specs.Arc.{arc_value}
 use Rattle.std.specs.declared.sync.Arc.{Arc}
@@ -10,22 +10,22 @@ use Rattle.point_sets.specs.Changes.{Changes}
 use Rattle.checked_trees.specs.declared.script.CheckedStatement.{CheckedStatement}
 use Rattle.checked_trees.specs.declared.tree.Source.{Source}
 use Rattle.checked_trees.specs.Scripts.{Script, IsChecked, sources_of}
-use Rattle.checked_trees.specs.declared.tree.Source.TheVariants.{Result as ResultOf}
 use Rattle.operator_meaning.specs.Results.{Evaluated}
 use Rattle.operator_meaning.specs.Scripts.{Has, Fails, states}
 use Rattle.release_text.specs.Releases.{Page}
 use Rattle.transform_nodes.specs.declared.node.Node.{Node}
-use Rattle.transform_nodes.specs.declared.fault.NodeFault.{NodeFault}
 use Rattle.transform_nodes.specs.declared.work.Settle.{Settle}
 use Rattle.transform_nodes.specs.declared.work.Settle.TheVariants.{Apply, Forget}
 use Rattle.transform_nodes.specs.Faults.{wrong_of}
 use Rattle.transform_nodes.specs.Nodes.{operand_on, StandsAs, published}
 use Rattle.transform_nodes.specs.Trees.{counted}
-use Rattle.round_journal.specs.Journals.{State, state_of, Status, Legal, old_inputs, new_inputs, inputs_now, IsThere, Over, aside}
+use Rattle.round_journal.specs.Journals.{State, Named, state_of, Status, Legal, number, base as base_of, old_inputs, new_inputs, inputs_now, IsThere, Over, aside}
 use Rattle.round_journal.specs.Journals as journals
-use Rattle.round_journal.specs.Releases.{IsRelease}
+use Rattle.round_journal.specs.Releases.{IsReleaseOf, IsRelease}
+use Rattle.release_text.specs.declared.release.Release.{Release}
+use Rattle.std.specs.List.{All}
 use Rattle.round_core.specs.declared.counts.Counts.{Counts}
-use Rattle.round_core.specs.declared.limits.TheConstants.{ENTRY_LIMIT, FIELD_LIMIT}
+use Rattle.round_core.specs.declared.limits.TheConstants.{ENTRY_LIMIT, FIELD_LIMIT, SCRIPT_LIMIT, EARLIER_LIMIT}
 use Rattle.round_core.specs.declared.machine.Machine.{Machine}
 use Rattle.round_core.specs.declared.slot.Slot.{Slot}
 use Rattle.round_core.specs.declared.slot.Stage.{Stage}
@@ -37,22 +37,24 @@ use Rattle.round_core.specs.Slots.{EachSlot, settle_by}
 
 -- the counters of an empty journal
 abbrev pub first_counts : Counts
-first_counts = record { accepted = 0; fields = 0; base = 0; published = 0; rounds = 0; running = false; dropped = false; spoiled = false; to = 0; aside = 0 }
+first_counts = record { accepted = 0; fields = 0; newest = 0; published = 0; rounds = 0; script = 0; base = 0; running = false; dropped = false; spoiled = false; to = 0; aside = 0 }
 
 -- the counters are those of the journal
-pub record CountsKept (c : Script) (k : Counts) (s : State) : Type 0 where
+pub record CountsKept (k : Counts) (s : State) : Type 0 where
   pub accepted : k.accepted ≡ length s.accepted
   pub fields : k.fields ≡ s.fields
-  pub base : k.base ≡ s.base
+  pub newest : k.newest ≡ s.newest.number
   pub published : k.published ≡ s.published
   pub rounds : k.rounds ≡ s.rounds
+  pub script : k.script ≡ s.round.number
+  pub base : k.base ≡ base_of s
   pub running : k.running ≡ s.running
   pub dropped : k.dropped ≡ s.dropped
   pub spoiled : k.spoiled ≡ s.spoiled
   pub to : k.to ≡ s.to
-  pub aside : k.aside ≡ aside c s
+  pub aside : k.aside ≡ aside s
 
--- what the slots go by: the rounds of the last release and of the last opening, the inputs of the one and of the other, and where the statements are
+-- what the slots go by: the script, the rounds of the last release and of the last opening, the inputs from which the round goes on and those that it leads to, and where the statements are
 pub record Scene : Type 0 where
   pub script : Script
   pub published : ℕ
@@ -61,8 +63,8 @@ pub record Scene : Type 0 where
   pub news : List DataSet
   pub status : ℕ → Status
 
-abbrev pub scene_of : Script → State → Scene
-scene_of c s = record { script = c; published = s.published; round = s.rounds; olds = old_inputs c s; news = new_inputs c s; status = s.status }
+abbrev pub scene_of : State → Scene
+scene_of s = record { script = s.round.script; published = s.published; round = s.rounds; olds = old_inputs s; news = new_inputs s; status = s.status }
 
 -- the node of statement i, once it is settled so, stands for the inputs
 abbrev pub IsHome : Script → List DataSet → ℕ → Settle → Option Node → Type 0
@@ -121,32 +123,57 @@ pub record SlotsKept (v : Scene) (running : Bool) (slots : List Slot) : Type 0 w
   pub many : length slots ≡ length v.script.statements
   pub each : EachSlot (SlotKept v running) slots
 
+-- none of these statements waits
+abbrev pub NoneWaits : List Slot → List ℕ → Type 0
+NoneWaits slots = All (λ i. (d : Slot) → (slice_index_or slots i d).stage ≢ Waiting)
+
+-- the releases that were made last before the latest one are kept, at most so many of them, each with its number
+pub record EarlierKept (s : State) (releases : List Release) : Type 0 where
+  pub many : length releases ≡ min (number s) EARLIER_LIMIT
+  pub each : (i : ℕ) (d : Release) (e : Named) → i < length releases → IsReleaseOf s (number s - length releases + i) (slice_index_or s.earlier (number s - length releases + i) e) (slice_index_or releases i d)
+
+-- the scripts that are held are those of the journal
+pub record ScriptsKept (a : Machine) (s : State) : Type 0 where
+  pub first : arc_value a.first ≡ s.first
+  pub newest : arc_value a.newest ≡ s.newest.script
+  pub round : arc_value a.script ≡ s.round.script
+
 -- all that is kept but that the round is not over
 pub record Sound (a : Machine) (s : State) : Type 0 where
-  pub checked : IsChecked a.script
-  pub counts : CountsKept a.script a.counts s
-  pub inputs : InputsKept (old_inputs a.script s) (new_inputs a.script s) (inputs_now a.script s) a.inputs
-  pub slots : SlotsKept (scene_of a.script s) s.running a.slots.items
-  pub release : IsRelease a.script s a.latest
+  pub scripts : ScriptsKept a s
+  pub counts : CountsKept a.counts s
+  pub inputs : InputsKept (old_inputs s) (new_inputs s) (inputs_now s) a.inputs
+  pub slots : SlotsKept (scene_of s) s.running a.slots.items
+  pub passed : s.running ≡ true → NoneWaits a.slots.items (take a.passed s.round.script.order)
+  pub release : IsRelease s a.latest
+  pub earlier : EarlierKept s a.earlier.items
+  pub earlier_fit : EARLIER_LIMIT ≤ vec_capacity a.earlier
   pub pages : a.room.items ≡ []
   pub pages_fit : s.running ≡ true → length a.slots.items ≤ vec_capacity a.room
 
 -- the journal is legal, within its limits, and has room for what is set aside
 pub record Within (a : Machine) : Type 0 where
-  pub legal : Legal a.script a.journal.items
+  pub checked : IsChecked (arc_value a.first)
+  pub legal : Legal (arc_value a.first) a.journal.items
   pub entries : a.limits.entries ≤ ENTRY_LIMIT
   pub fields : a.limits.fields ≤ FIELD_LIMIT
+  pub scripts : a.limits.scripts ≤ SCRIPT_LIMIT
   pub fits : length a.journal.items + a.counts.aside ≤ a.limits.entries
   pub fields_fit : a.counts.fields ≤ a.limits.fields
+  pub scripts_fit : a.counts.newest < a.limits.scripts
   pub room : length a.journal.items + a.counts.aside ≤ vec_capacity a.journal
+
+-- what the journal says
+abbrev pub state_at : Machine → State
+state_at a = state_of (arc_value a.first) a.journal.items
 
 pub record KeptMachine (a : Machine) : Type 0 where
   pub within : Within a
-  pub sound : Sound a (state_of a.journal.items)
-  pub live : ¬ (Over a.script (state_of a.journal.items))
+  pub sound : Sound a (state_at a)
+  pub live : ¬ (Over (state_at a))
 
 abbrev pub seen_of : Machine → Seen
-seen_of a = record { script = a.script; limits = a.limits; journal = a.journal.items }
+seen_of a = record { script = arc_value a.first; limits = a.limits; journal = a.journal.items }
 
 abbrev pub Kept : Inside → Type 0
 Kept a = KeptMachine a.machine

@@ -11,7 +11,7 @@ use Rattle.round_core.specs.declared.limits.Limits.{Limits}
 use Rattle.round_core.specs.contracts.limits.Limits as limits
 use Rattle.round_journal.specs.contracts.entry.Entry as entry
 
--- a production: its script, its limits, and all that happened
+-- a production: its first script, its limits, and all that happened
 pub record Seen : Type 0 where
   pub script : Script
   pub limits : Limits
@@ -22,15 +22,15 @@ seen_coded = code_by (Script × (Limits × List Entry)) (coded× script_coded (c
 
 -- what its journal says
 abbrev pub state_in : Seen → State
-state_in p = state_of p.journal
+state_in p = state_of p.script p.journal
 
 -- one entry more
 abbrev pub seen_with : Seen → ℕ → What → Seen
 seen_with p n w = record p { journal = p.journal ++ (record { by = n; what = w }) ∷ [] }
 
--- with a round opened over all accepted revisions; in a script without statements it is over, and published at once
+-- with a round opened over all accepted revisions; where the newest script has no statements it is over, and published at once
 abbrev pub opened : Seen → ℕ → Seen
-opened p n = at_once p.script.statements (length (state_in p).accepted)
+opened p n = at_once (state_in p).newest.script.statements (length (state_in p).accepted)
   where
     at_once : List CheckedStatement → ℕ → Seen
     at_once [] to = seen_with (seen_with p n (Opened to)) n (Published to)

@@ -1,7 +1,8 @@
 // Which statements are ready, and how a round goes on.
-ghost use Rattle.std.specs.Prelude.{◌≡◌, ◌≢◌, ◌<◌, ◌≤◌, ◌↔◌, ℕ, true, false, IfSome, IsTrue, None, length, count_by};
+ghost use Rattle.std.specs.Prelude.{◌≡◌, ◌≢◌, ◌<◌, ◌≤◌, ◌↔◌, ℕ, true, false, IfSome, IsTrue, None, length, take, count_by};
 ghost use Rattle.std.specs.List.{All};
 ghost use Rattle.round_core.specs.Slots.{ThereIn, ReadyIn, EachSlot, IsFaultFree, FirstWrong, AllStill, EndsSo, FirstReadyIn, is_out, points_in_all};
+ghost use Rattle.round_core.specs.Kept.{NoneWaits};
 ghost use Rattle.round_core.specs.Answers.{told};
 
 use crate::slot::{Slot, Stage};
@@ -76,6 +77,19 @@ pub fn first_ready(slots: &[Slot], order: &[u64]) -> Option<u64>
         }
     }
     None
+}
+
+/// How many of the listed statements don't wait, from the first one on to one that does. Those before `from` don't.
+pub fn passed_over(slots: &[Slot], order: &[u64], from: usize) -> usize
+    requires below { All (λ i. i < length slots.now) order.now }
+    requires passed { NoneWaits slots.now (take from order.now) }
+    ensures { NoneWaits slots.now (take result order.now) }
+{
+    let mut passed = from;
+    while passed < order.len() && !slots[order[passed] as usize].waits() {
+        passed += 1;
+    }
+    passed
 }
 
 /// How many statements are out.

@@ -4,9 +4,10 @@ ghost use Rattle.std.specs.List.{All};
 ghost use Rattle.std.specs.FinMap as finmap;
 ghost use Rattle.point_sets.specs.DataSets.{DataSet};
 ghost use Rattle.revision_judge.specs.Shares.{IsShare, AreShares};
-ghost use Rattle.round_core.specs.Inputs.{ChangeKept, InputsKept, AreEmpty, Carries, Starts, AllCarry, AllClosed, HasInput, IsNext, AreNexts};
+ghost use Rattle.round_core.specs.Inputs.{ChangeKept, InputsKept, AreEmpty, Carries, Starts, AllCarry, AllBegin, AllClosed, HasInput, IsNext, AreNexts};
 
 use crate::runs::Runs;
+use crate::whole::all_of;
 use point_sets::{Delta, PointSet, compose};
 use revision_judge::Share;
 use sqlite_items::Items;
@@ -116,6 +117,20 @@ impl Inputs {
             next.push(carried(alloc, change)?)?;
         }
         Ok(next)
+    }
+
+    /// The changes of the first round of a script: each leads from no points to the input of now, and takes the time and
+    /// the memory of all of them.
+    pub fn from_nothing(&self) -> Result<Vec<InputChange>, AllocError>
+        ensures { IfOk result (λ changes. AllBegin self.now.sets.items changes.items) }
+    {
+        let alloc = *self.sets.allocator();
+        let mut changes: Vec<InputChange> = Vec::new(alloc);
+        let sets = self.sets.as_slice();
+        for set in sets {
+            changes.push(started(alloc, all_of(alloc, set)?)?)?;
+        }
+        Ok(changes)
     }
 
     /// Takes the inputs of the last round for those of the last release.

@@ -1,25 +1,28 @@
 // A production's parts, and what each call makes of them.
-ghost use Rattle.std.specs.Prelude.{◌≡◌, ◌≢◌, ◌≤◌, ◌<◌, ◌+◌, ◌-◌, ◌++◌, ◌∷◌, [], ℕ, slice_index_or, slice_set, true, false, IfOk, IfSome, OnErr, Some, None, length, vec_len, vec_capacity};
+ghost use Rattle.std.specs.Prelude.{◌≡◌, ◌≢◌, ◌≤◌, ◌<◌, ◌+◌, ◌-◌, ◌↔◌, ◌++◌, ◌∷◌, [], ℕ, slice_index_or, slice_set, drop, true, false, IfOk, IfSome, OnErr, Some, None, length, vec_len, vec_capacity};
 ghost use Rattle.std.specs.List.{All};
 ghost use Rattle.checked_trees.specs.Scripts.{IsChecked};
 ghost use Rattle.revision_judge.specs.Judging.{judged};
 ghost use Rattle.revision_judge.specs.Shares.{StandsForJudgement};
-ghost use Rattle.round_journal.specs.Journals.{state_of, part_fields, fields_of, name_of_part, inputs_now, IsOutBy};
+ghost use Rattle.std.specs.Arc.{arc_value};
+ghost use Rattle.round_journal.specs.Releases.{IsReleaseAt, oldest_kept};
+ghost use Rattle.round_journal.specs.Journals.{number as number_of, part_fields, fields_of, name_of_part, inputs_now, IsOutBy};
 ghost use Rattle.round_journal.specs.Stands.{DoneStands};
-ghost use Rattle.round_core.specs.Answers.{told, entries_wanting, full_for, cannot_open, Claims, given_what};
-ghost use Rattle.round_core.specs.Kept.{KeptMachine, seen_of};
+ghost use Rattle.round_core.specs.Answers.{told, entries_wanting, full_for, cannot_rescript, cannot_open, Replaces, Claims, given_what};
+ghost use Rattle.round_core.specs.Inputs.{AllCarry};
+ghost use Rattle.round_core.specs.Kept.{KeptMachine, seen_of, state_at};
 ghost use Rattle.round_core.specs.Seen.{seen_with, opened};
-ghost use Rattle.round_core.specs.Slots.{ReadyIn, FirstReadyIn, EndsSo, back_with};
+ghost use Rattle.round_core.specs.Slots.{EachSlot, SameHomes, ReadyIn, FirstReadyIn, EndsSo, back_with};
 ghost use Rattle.round_core.specs.declared.slot.Slot.{Slot};
-ghost use Rattle.round_core.specs.Steps.{Stays, Judges, HasRoom, IsSetAside, OpenStill, EndedSo, closed_counts};
+ghost use Rattle.round_core.specs.Steps.{Stays, Judges, HasRoom, IsPrepared, HasSlots, IsSetAside, TakesOn, OpenStill, EndedSo, closed_counts};
 
 use crate::counts::Counts;
-use crate::ends::{End, end_of, first_ready};
+use crate::ends::{End, end_of, first_ready, passed_over};
 use crate::inputs::{InputChange, Inputs};
-use crate::limits::{ENTRY_LIMIT, FIELD_LIMIT, Full, Limits};
+use crate::limits::{EARLIER_LIMIT, ENTRY_LIMIT, FIELD_LIMIT, Full, Limits, SCRIPT_LIMIT};
 use crate::moves::{collect_pages, first_pages, first_slots, hand_on, prepare};
 use crate::slot::{Slot, Stage};
-use crate::stops::{Given, OpenStop};
+use crate::stops::{Given, NoRelease, OpenStop};
 use checked_trees::CheckedScript;
 use point_sets::{Part, Revision};
 use release_text::{Pages, Release};
@@ -28,21 +31,43 @@ use round_journal::{Entry, Journal, ScriptFault, Verdict, What};
 use sqlite_items::Items;
 use std::alloc::{AllocError, Global};
 use std::mem;
+use std::sync::Arc;
 use transform_nodes::{DoneParts, Finish, Node, Work};
 use vtl_values::Word;
 
-/// The parts of a production: the script, the limits, all that happened, what it counts, the inputs, a slot for each
-/// statement, the room of the release of the open round, and the latest release.
+/// The parts of a production: the first script, the newest one, and that of the last round; the limits, all that
+/// happened, and what it counts; the inputs, a slot for each statement of the last round's script, and how many of the
+/// first ones in its order don't wait any more; the room of the release of the open round, the latest release, and
+/// those before it that are kept.
 #[derive(Drop)]
 pub struct Machine {
-    pub script: CheckedScript,
+    pub first: Arc<CheckedScript>,
+    pub newest: Arc<CheckedScript>,
+    pub script: Arc<CheckedScript>,
     pub limits: Limits,
     pub journal: Vec<Entry>,
     pub counts: Counts,
     pub inputs: Inputs,
     pub slots: Vec<Slot>,
+    pub passed: usize,
     pub room: Vec<Pages>,
     pub latest: Release,
+    pub earlier: Vec<Release>,
+}
+
+/// What the first round of a script needs: the script, and the slots of its statements.
+#[derive(Drop)]
+pub struct FirstRound {
+    pub script: Arc<CheckedScript>,
+    pub slots: Vec<Slot>,
+}
+
+/// What a round needs that is to be opened: the changes of the inputs by which it goes, and what else the first one of
+/// its script needs.
+#[derive(Drop)]
+pub struct Setting {
+    pub changes: Vec<InputChange>,
+    pub first: Option<FirstRound>,
 }
 
 /// Adds an entry. There is room.
@@ -52,6 +77,22 @@ pub fn note(journal: &mut Vec<Entry>, by: u64, what: What)
     ensures capacity { vec_capacity journal.old ≤ vec_capacity journal.new }
 {
     match journal.push(Entry { by, what }) {
+        Ok(()) => {}
+        Err(_) => {}
+    }
+}
+
+/// Keeps a release beside the latest one, in place of the oldest where there is no room for one more.
+fn keep(earlier: &mut Vec<Release>, release: Release)
+    requires few { length earlier.old.items ≤ EARLIER_LIMIT }
+    requires room { EARLIER_LIMIT ≤ vec_capacity earlier.old }
+    ensures items { earlier.new.items ≡ drop (length earlier.old.items + 1 - EARLIER_LIMIT) earlier.old.items ++ release ∷ [] }
+    ensures capacity { EARLIER_LIMIT ≤ vec_capacity earlier.new }
+{
+    if earlier.len() == EARLIER_LIMIT {
+        let _oldest = earlier.remove(0);
+    }
+    match earlier.push(release) {
         Ok(()) => {}
         Err(_) => {}
     }
@@ -96,25 +137,33 @@ impl Machine {
         requires checked { IsChecked script }
         requires entries { limits.entries ≤ ENTRY_LIMIT }
         requires fields { limits.fields ≤ FIELD_LIMIT }
+        requires some { 1 ≤ limits.scripts }
+        requires scripts { limits.scripts ≤ SCRIPT_LIMIT }
         ensures kept { IfOk result KeptMachine }
         ensures seen { IfOk result (λ a. seen_of a ≡ record { script = script; limits = limits; journal = [] }) }
     {
         let inputs = Inputs::new(alloc, script.inputs().len())?;
         let slots = first_slots(alloc, &script)?;
         let pages = first_pages(alloc, &script)?;
+        let first = Arc::new(alloc, script)?;
         Ok(Machine {
-            script,
+            newest: first.clone()?,
+            script: first.clone()?,
+            first,
             limits,
             journal: Vec::new(alloc),
             counts: Counts::new(),
             inputs,
             slots,
+            passed: 0,
             room: Vec::new(alloc),
             latest: Release {
                 number: 0,
                 prefix: 0,
+                script: 0,
                 pages,
             },
+            earlier: Vec::with_capacity(alloc, EARLIER_LIMIT)?,
         })
     }
 
@@ -122,19 +171,31 @@ impl Machine {
     pub fn into_journal(self) -> Journal
         ensures { result.entries ≡ self.journal.items }
     {
-        let Machine {
-            script: _,
-            limits: _,
-            journal,
-            counts: _,
-            inputs: _,
-            slots: _,
-            room: _,
-            latest: _,
-        } = self;
+        let Machine { journal, .. } = self;
         Journal {
             entries: Items::from_vec(journal),
         }
+    }
+
+    /// The release with this number, if it is kept.
+    pub fn release(&self, number: u64) -> Result<&Release, NoRelease>
+        requires { KeptMachine self.now }
+        ensures found { IfOk result (λ release. IsReleaseAt (state_at self.now) number release.now) }
+        ensures gone { (oldest : ℕ) → (result ≡ Err (NoRelease.Gone oldest)) ↔ ((number < oldest_kept (state_at self.now)) × (oldest ≡ oldest_kept (state_at self.now))) }
+        ensures not_yet { (latest : ℕ) → (result ≡ Err (NoRelease.NotYet latest)) ↔ ((number_of (state_at self.now) < number) × (latest ≡ number_of (state_at self.now))) }
+    {
+        let latest = self.latest.number;
+        if latest < number {
+            return Err(NoRelease::NotYet(latest));
+        }
+        if latest == number {
+            return Ok(&self.latest);
+        }
+        let oldest = latest - self.earlier.len() as u64;
+        if number < oldest {
+            return Err(NoRelease::Gone(oldest));
+        }
+        Ok(&self.earlier[(number - oldest) as usize])
     }
 
     /// The entries that are held, set aside and needed, where together they pass the limit.
@@ -178,14 +239,46 @@ impl Machine {
         if counts.running {
             return Some(OpenStop::Running(counts.rounds));
         }
-        if counts.accepted == 0 || (counts.to == counts.accepted && !counts.dropped) {
+        if counts.nothing_new() {
             return Some(OpenStop::NothingNew(counts.accepted));
         }
-        let need = 2 * self.slots.len() as u64 + 2;
+        let need = 2 * self.newest.statements().len() as u64 + 2;
         match self.entries_wanting(0, need) {
             Some(full) => Some(OpenStop::Full(full)),
             None => None,
         }
+    }
+
+    /// Why the script can't be replaced, if it can't but for want of memory.
+    pub fn cannot_rescript(&self) -> Option<Full>
+        requires { KeptMachine self.now }
+        ensures { result ≡ cannot_rescript (seen_of self.now) }
+    {
+        let held = self.counts.newest + 1;
+        if self.limits.scripts <= held {
+            return Some(Full::Scripts { held });
+        }
+        self.entries_wanting(self.counts.aside, 1)
+    }
+
+    /// Replaces the script from the next round on, and answers the new one's number.
+    pub fn rescript(&mut self, by: u64, script: CheckedScript) -> Result<u64, AllocError>
+        requires kept { KeptMachine self.old }
+        requires checked { IsChecked script }
+        requires same_inputs { script.inputs ≡ (arc_value self.old.first).inputs }
+        requires fits { cannot_rescript (seen_of self.old) ≡ None }
+        ensures kept { KeptMachine self.new }
+        ensures ok { IfOk result (λ k. Replaces (seen_of self.old) by script k (seen_of self.new)) }
+        ensures err { OnErr result (seen_of self.new ≡ seen_of self.old) }
+    {
+        let alloc = *self.journal.allocator();
+        self.journal.reserve(self.counts.aside as usize + 1)?;
+        let newest = Arc::new(alloc, script)?;
+        let script = newest.clone()?;
+        self.newest = newest;
+        self.counts.newest += 1;
+        note(&mut self.journal, by, What::Rescripted { script });
+        Ok(self.counts.newest)
     }
 
     /// Judges a revision that fits.
@@ -199,7 +292,7 @@ impl Machine {
         self.journal.reserve(self.counts.aside as usize + 1)?;
         let ruling = judge(
             alloc,
-            self.script.inputs(),
+            self.first.inputs(),
             self.inputs.sets.as_slice(),
             &revision,
         )?;
@@ -217,7 +310,7 @@ impl Machine {
     ) -> Result<Verdict, AllocError>
         requires kept { KeptMachine self.old }
         requires room { HasRoom self.old revision }
-        requires judged { StandsForJudgement (inputs_now self.old.script (state_of self.old.journal.items)) (Ruling.Fit shares) (judged self.old.script.inputs (inputs_now self.old.script (state_of self.old.journal.items)) revision) }
+        requires judged { StandsForJudgement (inputs_now (state_at self.old)) (Ruling.Fit shares) (judged (arc_value self.old.first).inputs (inputs_now (state_at self.old)) revision) }
         ensures ok { IfOk result (λ v. Judges self.old by revision v self.new) }
         ensures err { OnErr result (Stays self.old self.new) }
     {
@@ -238,7 +331,7 @@ impl Machine {
     ) -> Result<Verdict, AllocError>
         requires kept { KeptMachine self.old }
         requires room { HasRoom self.old revision }
-        requires judged { StandsForJudgement (inputs_now self.old.script (state_of self.old.journal.items)) (Ruling.Refused refusal) (judged self.old.script.inputs (inputs_now self.old.script (state_of self.old.journal.items)) revision) }
+        requires judged { StandsForJudgement (inputs_now (state_at self.old)) (Ruling.Refused refusal) (judged (arc_value self.old.first).inputs (inputs_now (state_at self.old)) revision) }
         ensures ok { IfOk result (λ v. Judges self.old by revision v self.new) }
         ensures err { OnErr result (Stays self.old self.new) }
     {
@@ -259,31 +352,66 @@ impl Machine {
         })
     }
 
-    /// Sets aside what a round needs, and answers the changes of the inputs that it goes by.
-    pub fn set_aside(&mut self) -> Result<Vec<InputChange>, AllocError>
+    /// Sets aside what a round needs.
+    pub fn set_aside(&mut self) -> Result<Setting, AllocError>
         requires kept { KeptMachine self.old }
         requires closed { self.old.counts.running ≡ false }
         ensures stays { Stays self.old self.new }
-        ensures ready { IfOk result (λ changes. IsSetAside changes.items self.new) }
+        ensures ready { IfOk result (λ setting. IsSetAside setting self.new) }
+    {
+        let many = self.newest.statements().len();
+        self.journal.reserve(2 * many + 2)?;
+        self.room.reserve(many)?;
+        if self.counts.script == self.counts.newest {
+            self.going_on()
+        } else {
+            self.beginning()
+        }
+    }
+
+    /// What a round needs that has the script of the one before. It costs what changed since the latest release.
+    fn going_on(&mut self) -> Result<Setting, AllocError>
+        ensures rest { self.new ≡ record self.old { slots = self.new.slots } }
+        ensures same { SameHomes self.old.slots.items self.new.slots.items }
+        ensures carried { IfOk result (λ setting. AllCarry self.old.inputs.changes.items setting.changes.items) }
+        ensures ready { IfOk result (λ setting. EachSlot (λ i slot. IsPrepared setting.changes.items slot) self.new.slots.items) }
+        ensures none { IfOk result (λ setting. setting.first ≡ None) }
     {
         let alloc = *self.journal.allocator();
-        self.journal.reserve(2 * self.slots.len() + 2)?;
-        self.room.reserve(self.slots.len())?;
         let changes = self.inputs.carried()?;
         prepare(alloc, &mut self.slots, changes.as_slice())?;
-        Ok(changes)
+        Ok(Setting {
+            changes,
+            first: None,
+        })
+    }
+
+    /// What the first round of the newest script needs. It costs all that the inputs have.
+    fn beginning(&self) -> Result<Setting, AllocError>
+        requires { self.now.counts.script ≢ self.now.counts.newest }
+        ensures { IfOk result (λ setting. HasSlots setting.changes.items setting.first self.now) }
+    {
+        let alloc = *self.journal.allocator();
+        let changes = self.inputs.from_nothing()?;
+        let mut slots = first_slots(alloc, &self.newest)?;
+        prepare(alloc, &mut slots, changes.as_slice())?;
+        let script = self.newest.clone()?;
+        Ok(Setting {
+            changes,
+            first: Some(FirstRound { script, slots }),
+        })
     }
 
     /// Opens a round for which all is set aside.
-    pub fn open(&mut self, by: u64, changes: Vec<InputChange>) -> u64
+    pub fn open(&mut self, by: u64, setting: Setting) -> u64
         requires kept { KeptMachine self.old }
-        requires ready { IsSetAside changes.items self.old }
+        requires ready { IsSetAside setting self.old }
         requires opens { cannot_open (seen_of self.old) ≡ None }
         ensures kept { KeptMachine self.new }
         ensures seen { seen_of self.new ≡ opened (seen_of self.old) by }
-        ensures number { result ≡ (state_of self.old.journal.items).rounds + 1 }
+        ensures number { result ≡ (state_at self.old).rounds + 1 }
     {
-        self.inputs.changes = changes;
+        self.take_on(setting);
         let round = self.counts.rounds + 1;
         let accepted = self.counts.accepted;
         self.counts.rounds = round;
@@ -294,25 +422,45 @@ impl Machine {
         self.counts.aside = 2 * self.slots.len() as u64 + 1;
         note(&mut self.journal, by, What::Opened { to: accepted });
         if self.slots.is_empty() {
+            // Its number is the production's to tell.
             let _ = self.publish(by);
         }
         round
     }
 
-    /// The first statement in the script's order that is ready.
-    pub fn next_ready(&self) -> Option<u64>
-        requires { KeptMachine self.now }
-        ensures found { IfSome result (FirstReadyIn self.now.slots.items self.now.script.order) }
-        ensures none { result ≡ None → All (λ i. ¬ (ReadyIn self.now.slots.items i)) self.now.script.order }
+    /// Takes on what was set aside for a round.
+    fn take_on(&mut self, setting: Setting)
+        ensures { TakesOn setting self.old self.new }
     {
-        first_ready(self.slots.as_slice(), self.script.order())
+        self.passed = 0;
+        self.inputs.changes = setting.changes;
+        if let Some(first) = setting.first {
+            self.script = first.script;
+            self.slots = first.slots;
+            self.counts.script = self.counts.newest;
+            self.counts.base = 0;
+        }
+    }
+
+    /// The first statement in the order of the open round's script that is ready.
+    pub fn next_ready(&self) -> Option<u64>
+        requires kept { KeptMachine self.now }
+        requires running { self.now.counts.running ≡ true }
+        ensures found { IfSome result (FirstReadyIn self.now.slots.items (arc_value self.now.script).order) }
+        ensures none { result ≡ None → All (λ i. ¬ (ReadyIn self.now.slots.items i)) (arc_value self.now.script).order }
+    {
+        let order = self.script.order();
+        if order.len() < self.passed {
+            return None;
+        }
+        first_ready(self.slots.as_slice(), &order[self.passed..])
     }
 
     /// Hands out the work of the first statement that is ready.
     pub fn hand_out(&mut self, by: u64, i: u64) -> Work
         requires kept { KeptMachine self.old }
         requires running { self.old.counts.running ≡ true }
-        requires first { FirstReadyIn self.old.slots.items self.old.script.order i }
+        requires first { FirstReadyIn self.old.slots.items (arc_value self.old.script).order i }
         ensures kept { KeptMachine self.new }
         ensures claims { Claims (seen_of self.old) by result (seen_of self.new) }
         ensures which { result.statement ≡ i }
@@ -320,6 +468,7 @@ impl Machine {
         let alloc = *self.journal.allocator();
         let slot = &mut self.slots[i as usize];
         let (settle, news, node) = slot.hand_out(alloc, self.counts.published);
+        self.passed = passed_over(self.slots.as_slice(), self.script.order(), self.passed);
         self.counts.aside -= 1;
         note(&mut self.journal, by, What::Claimed { statement: i });
         Work {
@@ -336,8 +485,8 @@ impl Machine {
     /// Takes a work back. The round may be over then, and is not ended.
     pub fn take_back(&mut self, by: u64, done: DoneParts)
         requires kept { KeptMachine self.old }
-        requires out { IsOutBy self.old.script (state_of self.old.journal.items) by done.statement }
-        requires stands { DoneStands self.old.script (state_of self.old.journal.items) done }
+        requires out { IsOutBy (state_at self.old) by done.statement }
+        requires stands { DoneStands (state_at self.old) done }
         ensures still { OpenStill self.new by }
         ensures seen { seen_of self.new ≡ seen_with (seen_of self.old) by (given_what done.finish done.statement) }
     {
@@ -461,11 +610,14 @@ impl Machine {
         collect_pages(&mut self.slots, &mut self.room);
         let pages = mem::replace(&mut self.room, Vec::new(alloc));
         let number = self.latest.number + 1;
-        self.latest = Release {
+        let release = Release {
             number,
             prefix: to,
+            script: self.counts.script,
             pages: Items::from_vec(pages),
         };
+        let before = mem::replace(&mut self.latest, release);
+        keep(&mut self.earlier, before);
         self.inputs.close();
         self.counts.published = self.counts.rounds;
         self.counts.base = to;

@@ -110,6 +110,16 @@ impl Slot {
         }
     }
 
+    /// Whether the statement wasn't handed out in the open round.
+    pub fn waits(&self) -> bool
+        ensures { (result ≡ true) ↔ (self.now.stage ≡ Stage.Waiting) }
+    {
+        match &self.stage {
+            Stage::Waiting => true,
+            _ => false,
+        }
+    }
+
     /// Where the statement names the result with this number.
     pub fn place_of(&self, statement: u64) -> Option<usize>
         ensures found { IfSome result (λ k. NamesAt self.now.sources statement k) }

@@ -19,12 +19,28 @@ impl From<AllocError> for SubmitStop {
     }
 }
 
+/// Why a script was not replaced.
+#[derive(Debug, Drop)]
+pub enum RescriptStop {
+    /// It doesn't fit any more.
+    Full(Full),
+    /// Memory was wanting.
+    Memory,
+}
+
+impl From<AllocError> for RescriptStop {
+    fn from(_: AllocError) -> RescriptStop {
+        RescriptStop::Memory
+    }
+}
+
 /// Why a round was not opened.
 #[derive(Debug, Drop)]
 pub enum OpenStop {
     /// The round with this number is open.
     Running(u64),
-    /// No revision was accepted yet, or the last round had all of so many and wasn't dropped.
+    /// Of so many accepted revisions and of the scripts nothing is new: the last round had them all and the newest
+    /// script, and wasn't dropped, or there are none and the script is the first one.
     NothingNew(u64),
     /// Its entries don't fit any more.
     Full(Full),
@@ -45,6 +61,15 @@ pub enum ClaimStop {
     NoRound(u64),
     /// No statement is ready, and so many are out.
     NoneReady { out: u64 },
+}
+
+/// Why there is no release to be had with the number that was asked for.
+#[derive(Clone, Copy, Debug, PartialEq, Eq)]
+pub enum NoRelease {
+    /// It isn't kept any more. This is the oldest one that is.
+    Gone(u64),
+    /// It wasn't made yet. This is the latest one.
+    NotYet(u64),
 }
 
 /// What giving a work back came to.

@@ -7,7 +7,7 @@ use Rattle.operator_meaning.specs.Scripts.{with_at}
 use Rattle.operator_meaning.proofs.ScriptLemmas.{with_at-same, with_at-other}
 use Rattle.round_journal.specs.declared.entry.Entry.{Entry}
 use Rattle.round_journal.specs.declared.entry.What.{What}
-use Rattle.round_journal.specs.declared.entry.What.TheVariants.{Judged, Opened, Claimed, Returned, GaveUp, Published, Failed, Dropped}
+use Rattle.round_journal.specs.declared.entry.What.TheVariants.{Judged, Rescripted, Opened, Claimed, Returned, GaveUp, Published, Failed, Dropped}
 use Rattle.round_journal.specs.declared.verdict.Verdict.{Verdict}
 use Rattle.round_journal.specs.declared.verdict.Verdict.TheVariants.{Accepted, Refused}
 use Rattle.round_journal.specs.Journals.{State, Status, Waiting, Out, Back, Spoiled, start, accepted_after, after, after_what, after_all, state_of, round_need, aside, Ready, IsOutBy, MayCome, Legal}
@@ -22,31 +22,32 @@ accepted_after-few rs r (Accepted n) = omega (arith, length-append rs (r ∷ [])
 accepted_after-few rs r (Refused set parts refusal) = omega arith
 
 CountsWithin-more : (s : State) (m n : ℕ) (w : What) → CountsWithin s m → CountsWithin (after_what s n w) (m + 1)
-CountsWithin-more s m n (Judged r v) h = record { accepted = omega (arith, accepted_after-few s.accepted r v, h.accepted); rounds = omega (arith, h.rounds); number = omega (arith, h.number) }
-CountsWithin-more s m n w h = record { accepted = omega (arith, h.accepted); rounds = omega (arith, h.rounds); number = omega (arith, h.number) }
+CountsWithin-more s m n (Judged r v) h = record { accepted = omega (arith, accepted_after-few s.accepted r v, h.accepted); rounds = omega (arith, h.rounds); number = omega (arith, h.number); scripts = omega (arith, h.scripts) }
+CountsWithin-more s m n (Published to) h = record { accepted = omega (arith, h.accepted); rounds = omega (arith, h.rounds); number = omega (arith, h.number, length-append s.earlier (s.latest ∷ [])); scripts = omega (arith, h.scripts) }
+CountsWithin-more s m n w h = record { accepted = omega (arith, h.accepted); rounds = omega (arith, h.rounds); number = omega (arith, h.number); scripts = omega (arith, h.scripts) }
 
 CountsWithin-all : (s : State) (m : ℕ) (es : List Entry) → CountsWithin s m → CountsWithin (after_all s es) (m + length es)
-CountsWithin-all s m [] h = record { accepted = omega (arith, h.accepted); rounds = omega (arith, h.rounds); number = omega (arith, h.number) }
+CountsWithin-all s m [] h = record { accepted = omega (arith, h.accepted); rounds = omega (arith, h.rounds); number = omega (arith, h.number); scripts = omega (arith, h.scripts) }
 CountsWithin-all s m (e ∷ es) h =
     let rest = CountsWithin-all (after s e) (m + 1) es (CountsWithin-more s m e.by e.what h) in
-    record { accepted = omega (arith, rest.accepted); rounds = omega (arith, rest.rounds); number = omega (arith, rest.number) }
+    record { accepted = omega (arith, rest.accepted); rounds = omega (arith, rest.rounds); number = omega (arith, rest.number); scripts = omega (arith, rest.scripts) }
 
-pub CountsWithin-journal : (j : List Entry) → CountsWithin (state_of j) (length j)
-CountsWithin-journal j =
-    let all = CountsWithin-all start 0 j (record { accepted = omega arith; rounds = omega arith; number = omega arith }) in
-    record { accepted = omega (arith, all.accepted); rounds = omega (arith, all.rounds); number = omega (arith, all.number) }
+pub CountsWithin-journal : (c : Script) (j : List Entry) → CountsWithin (state_of c j) (length j)
+CountsWithin-journal c j =
+    let all = CountsWithin-all (start c) 0 j (record { accepted = omega arith; rounds = omega arith; number = omega arith; scripts = omega arith }) in
+    record { accepted = omega (arith, all.accepted); rounds = omega (arith, all.rounds); number = omega (arith, all.number); scripts = omega (arith, all.scripts) }
 
 -- ---- rounds
 
-RoundsInOrder-keeps : (c : Script) (s : State) (n : ℕ) (w : What) → MayCome c s n w → RoundsInOrder s → RoundsInOrder (after_what s n w)
-RoundsInOrder-keeps c s n (Opened to) may h = record { earlier = omega (arith, h.earlier); before_open = λ _. omega (arith, h.earlier) }
-RoundsInOrder-keeps c s n (Published to) may h = record { earlier = omega arith; before_open = λ e. absurd (cc e) }
-RoundsInOrder-keeps c s n (Failed to fault) may h = record { earlier = h.earlier; before_open = λ e. absurd (cc e) }
-RoundsInOrder-keeps c s n (Dropped to) may h = record { earlier = h.earlier; before_open = λ e. absurd (cc e) }
-RoundsInOrder-keeps c s n w may h = record { earlier = h.earlier; before_open = h.before_open }
+RoundsInOrder-keeps : (s : State) (n : ℕ) (w : What) → MayCome s n w → RoundsInOrder s → RoundsInOrder (after_what s n w)
+RoundsInOrder-keeps s n (Opened to) may h = record { earlier = omega (arith, h.earlier); before_open = λ _. omega (arith, h.earlier) }
+RoundsInOrder-keeps s n (Published to) may h = record { earlier = omega arith; before_open = λ e. absurd (cc e) }
+RoundsInOrder-keeps s n (Failed to fault) may h = record { earlier = h.earlier; before_open = λ e. absurd (cc e) }
+RoundsInOrder-keeps s n (Dropped to) may h = record { earlier = h.earlier; before_open = λ e. absurd (cc e) }
+RoundsInOrder-keeps s n w may h = record { earlier = h.earlier; before_open = h.before_open }
 
-pub RoundsInOrder-legal : (c : Script) (j : List Entry) → Legal c j → RoundsInOrder (state_of j)
-RoundsInOrder-legal c = of_legal c RoundsInOrder (λ s e. RoundsInOrder-keeps c s e.by e.what) (record { earlier = omega arith; before_open = λ e. absurd (cc e) })
+pub RoundsInOrder-legal : (c : Script) (j : List Entry) → Legal c j → RoundsInOrder (state_of c j)
+RoundsInOrder-legal c = of_legal c RoundsInOrder (λ s e. RoundsInOrder-keeps s e.by e.what) (record { earlier = omega arith; before_open = λ e. absurd (cc e) })
 
 -- ---- entries of an open round
 
@@ -92,62 +93,63 @@ entries_below-left (suc n) i f l = elim (cases_eq n i) [
 ]
 
 -- an open round's entries are its own and those of its statements
-abbrev pub IsSpent : Script → State → Type 0
-IsSpent c s = s.running ≡ true → s.spent ≡ 1 + entries_below (length c.statements) s.status
+abbrev pub IsSpent : State → Type 0
+IsSpent s = s.running ≡ true → s.spent ≡ 1 + entries_below (length s.round.script.statements) s.status
 
-IsSpent-keeps : (c : Script) (s : State) (n : ℕ) (w : What) → MayCome c s n w → IsSpent c s → IsSpent c (after_what s n w)
-IsSpent-keeps c s n (Judged r v) may h = h
-IsSpent-keeps c s n (Opened to) may h = λ _. omega (arith, entries_below-none (length c.statements))
-IsSpent-keeps c s n (Claimed i) may h = λ run.
+IsSpent-keeps : (s : State) (n : ℕ) (w : What) → MayCome s n w → IsSpent s → IsSpent (after_what s n w)
+IsSpent-keeps s n (Judged r v) may h = h
+IsSpent-keeps s n (Rescripted c) may h = h
+IsSpent-keeps s n (Opened to) may h = λ _. omega (arith, entries_below-none (length s.newest.script.statements))
+IsSpent-keeps s n (Claimed i) may h = λ run.
     let ready = may.1.ready in
-    omega (arith, h run, entries_below-with_at (length c.statements) i (Out n) s.status ready.below, ap entries_of ready.waits)
-IsSpent-keeps c s n (Returned i) may h = λ run. omega (arith, h run, entries_below-with_at (length c.statements) i Back s.status may.below, ap entries_of may.out)
-IsSpent-keeps c s n (GaveUp i) may h = λ run. omega (arith, h run, entries_below-with_at (length c.statements) i Spoiled s.status may.below, ap entries_of may.out)
-IsSpent-keeps c s n w may h = λ e. absurd (cc e)
+    omega (arith, h run, entries_below-with_at (length s.round.script.statements) i (Out n) s.status ready.below, ap entries_of ready.waits)
+IsSpent-keeps s n (Returned i) may h = λ run. omega (arith, h run, entries_below-with_at (length s.round.script.statements) i Back s.status may.below, ap entries_of may.out)
+IsSpent-keeps s n (GaveUp i) may h = λ run. omega (arith, h run, entries_below-with_at (length s.round.script.statements) i Spoiled s.status may.below, ap entries_of may.out)
+IsSpent-keeps s n w may h = λ e. absurd (cc e)
 
-pub IsSpent-legal : (c : Script) (j : List Entry) → Legal c j → IsSpent c (state_of j)
-IsSpent-legal c = of_legal c (IsSpent c) (λ s e. IsSpent-keeps c s e.by e.what) (λ e. absurd (cc e))
+pub IsSpent-legal : (c : Script) (j : List Entry) → Legal c j → IsSpent (state_of c j)
+IsSpent-legal c = of_legal c IsSpent (λ s e. IsSpent-keeps s e.by e.what) (λ e. absurd (cc e))
 
 -- ---- the entries that are set aside
 
-pub aside-open : (c : Script) (s : State) → s.running ≡ true → aside c s ≡ round_need c - s.spent
-aside-open c s run = rw run refl
+pub aside-open : (s : State) → s.running ≡ true → aside s ≡ round_need s.round.script - s.spent
+aside-open s run = rw run refl
 
-pub aside-whole : (c : Script) (s : State) → s.running ≡ true → IsSpent c s → aside c s + s.spent ≡ round_need c
-aside-whole c s run h = omega (arith, aside-open c s run, h run, entries_below-few (length c.statements) s.status)
+pub aside-whole : (s : State) → s.running ≡ true → IsSpent s → aside s + s.spent ≡ round_need s.round.script
+aside-whole s run h = omega (arith, aside-open s run, h run, entries_below-few (length s.round.script.statements) s.status)
 
-pub aside-end : (c : Script) (s : State) → s.running ≡ true → IsSpent c s → 1 ≤ aside c s
-aside-end c s run h = omega (arith, aside-open c s run, h run, entries_below-few (length c.statements) s.status)
+pub aside-end : (s : State) → s.running ≡ true → IsSpent s → 1 ≤ aside s
+aside-end s run h = omega (arith, aside-open s run, h run, entries_below-few (length s.round.script.statements) s.status)
 
-pub aside-out : (c : Script) (s : State) (n i : ℕ) → IsOutBy c s n i → IsSpent c s → 2 ≤ aside c s
-aside-out c s n i out h = omega (arith, aside-open c s out.open_round, h out.open_round, entries_below-left (length c.statements) i s.status out.below, ap entries_of out.out)
+pub aside-out : (s : State) (n i : ℕ) → IsOutBy s n i → IsSpent s → 2 ≤ aside s
+aside-out s n i out h = omega (arith, aside-open s out.open_round, h out.open_round, entries_below-left (length s.round.script.statements) i s.status out.below, ap entries_of out.out)
 
-pub aside-ready : (c : Script) (s : State) (i : ℕ) → s.running ≡ true → Ready c s i → IsSpent c s → 3 ≤ aside c s
-aside-ready c s i run ready h = omega (arith, aside-open c s run, h run, entries_below-left (length c.statements) i s.status ready.below, ap entries_of ready.waits)
+pub aside-ready : (s : State) (i : ℕ) → s.running ≡ true → Ready s i → IsSpent s → 3 ≤ aside s
+aside-ready s i run ready h = omega (arith, aside-open s run, h run, entries_below-left (length s.round.script.statements) i s.status ready.below, ap entries_of ready.waits)
 
-pub aside-less : (c : Script) (s : State) (n : ℕ) (w : What) → IsOfStatement w → s.running ≡ true → aside c (after_what s n w) ≡ aside c s - 1
-aside-less c s n (Claimed i) h run = rw run (omega arith)
-aside-less c s n (Returned i) h run = rw run (omega arith)
-aside-less c s n (GaveUp i) h run = rw run (omega arith)
-aside-less c s n w h run = absurd h
+pub aside-less : (s : State) (n : ℕ) (w : What) → IsOfStatement w → s.running ≡ true → aside (after_what s n w) ≡ aside s - 1
+aside-less s n (Claimed i) h run = rw run (omega arith)
+aside-less s n (Returned i) h run = rw run (omega arith)
+aside-less s n (GaveUp i) h run = rw run (omega arith)
+aside-less s n w h run = absurd h
 
 -- ---- statements that were given up
 
-abbrev pub IsUnspoiled : Script → State → Type 0
-IsUnspoiled c s = s.spoiled ≡ false → NoneSpoiled c s
+abbrev pub IsUnspoiled : State → Type 0
+IsUnspoiled s = s.spoiled ≡ false → NoneSpoiled s
 
-with_at-unspoiled : (c : Script) (s : State) (i : ℕ) (x : Status) → x ≢ Spoiled → NoneSpoiled c s → (k : ℕ) → k < length c.statements → with_at i x s.status k ≢ Spoiled
-with_at-unspoiled c s i x fine h k l e = elim (cases_eq k i) [
+with_at-unspoiled : (s : State) (i : ℕ) (x : Status) → x ≢ Spoiled → NoneSpoiled s → (k : ℕ) → k < length s.round.script.statements → with_at i x s.status k ≢ Spoiled
+with_at-unspoiled s i x fine h k l e = elim (cases_eq k i) [
   | inl same ↦ fine (sym (subst (λ m. with_at i x s.status m ≡ x) (sym same) (with_at-same i x s.status)) ∙ e)
   | inr other ↦ h k l (sym (with_at-other i x s.status k (λ q. other (sym q))) ∙ e)
 ]
 
-IsUnspoiled-keeps : (c : Script) (s : State) (n : ℕ) (w : What) → MayCome c s n w → IsUnspoiled c s → IsUnspoiled c (after_what s n w)
-IsUnspoiled-keeps c s n (Opened to) may h = λ _ k l e. cc e
-IsUnspoiled-keeps c s n (Claimed i) may h = λ clean. with_at-unspoiled c s i (Out n) (λ e. cc e) (h clean)
-IsUnspoiled-keeps c s n (Returned i) may h = λ clean. with_at-unspoiled c s i Back (λ e. cc e) (h clean)
-IsUnspoiled-keeps c s n (GaveUp i) may h = λ clean. absurd (cc clean)
-IsUnspoiled-keeps c s n w may h = h
+IsUnspoiled-keeps : (s : State) (n : ℕ) (w : What) → MayCome s n w → IsUnspoiled s → IsUnspoiled (after_what s n w)
+IsUnspoiled-keeps s n (Opened to) may h = λ _ k l e. cc e
+IsUnspoiled-keeps s n (Claimed i) may h = λ clean. with_at-unspoiled s i (Out n) (λ e. cc e) (h clean)
+IsUnspoiled-keeps s n (Returned i) may h = λ clean. with_at-unspoiled s i Back (λ e. cc e) (h clean)
+IsUnspoiled-keeps s n (GaveUp i) may h = λ clean. absurd (cc clean)
+IsUnspoiled-keeps s n w may h = h
 
-pub IsUnspoiled-legal : (c : Script) (j : List Entry) → Legal c j → IsUnspoiled c (state_of j)
-IsUnspoiled-legal c = of_legal c (IsUnspoiled c) (λ s e. IsUnspoiled-keeps c s e.by e.what) (λ _ k l e. cc e)
+pub IsUnspoiled-legal : (c : Script) (j : List Entry) → Legal c j → IsUnspoiled (state_of c j)
+IsUnspoiled-legal c = of_legal c IsUnspoiled (λ s e. IsUnspoiled-keeps s e.by e.what) (λ _ k l e. cc e)

@@ -1,5 +1,5 @@
 -- How rounds end that had nothing given up.
-use Rattle.std.proofs.Common.{◌≡◌, ◌≢◌, ◌≤◌, ◌<◌, ◌⊎◌, inl, inr, ℕ, zero, suc, Bool, true, false, ◌&&◌, List, [], ◌∷◌, map, take, length, get_or, add-one, Some, None, is_some, min, sym, ◌∙◌, ap, refl, arith}
+use Rattle.std.proofs.Common.{◌≡◌, ◌≢◌, ◌≤◌, ◌<◌, ◌⊎◌, ◌↔◌, inl, inr, ℕ, zero, suc, Bool, true, false, ◌&&◌, List, [], ◌∷◌, map, take, length, get_or, add-one, Some, None, is_some, min, sym, ◌∙◌, ap, refl, arith, subst}
 use Rattle.std.specs.Prelude.{sum}
 use Rattle.std.specs.List.{All, list_all}
 use Rattle.std.proofs.Math.Bool.{and-false}
@@ -13,15 +13,21 @@ use Rattle.checked_trees.specs.declared.tree.Source.{Source}
 use Rattle.checked_trees.specs.declared.tree.Source.TheVariants.{Input, Result as ResultOf}
 use Rattle.checked_trees.specs.Scripts.{Script, IsChecked, names_of}
 use Rattle.operator_meaning.specs.Results.{Wrong}
-use Rattle.operator_meaning.specs.Scripts.{State as Value, Fails, Idle, set_in, set_named, states, first_states, points_in, POINTS_LIMIT, At, Total, or_total, script_wrong}
-use Rattle.round_journal.specs.Journals.{State, Status, Waiting, Out, Back, Spoiled, new_inputs, IsThere}
+use Rattle.operator_meaning.specs.Scripts.{State as Value, Fails, Idle, set_in, set_named, states, first_states, points_in, POINTS_LIMIT, ScriptWrong, At, Total, or_total}
+use Rattle.round_journal.specs.declared.entry.What.{What}
+use Rattle.round_journal.specs.declared.entry.What.TheVariants.{Judged, Rescripted, Opened, Claimed, Returned, GaveUp, Published, Failed, Dropped}
+use Rattle.round_journal.specs.declared.verdict.ScriptFault.{ScriptFault}
+use Rattle.round_journal.specs.Journals.{State, Status, Waiting, Out, Back, Spoiled, new_inputs, round_wrong, fault_said, IsThere, Over, MayCome}
 use Rattle.round_journal.specs.Ends.{OverUnspoiled, HasSet, IsNoFault, FirstFault, NoFault, ArePoints}
-use Rattle.round_journal.proofs.InputLemmas.{inputs_after-long}
+use Rattle.round_journal.proofs.InputLemmas.{inputs-long}
 use Rattle.round_journal.proofs.ScriptLemmas.{OfResult, along_order, sources_of-all, all_named-true, state_cases, Idle-from_names, worked-from_names, script_wrong-at, script_wrong-total}
 
-module _ (c : Script) (s : State) (checked : IsChecked c) (over : OverUnspoiled c s) where
+module _ (s : State) (checked : IsChecked s.round.script) (over : OverUnspoiled s) where
+  abbrev c : Script
+  c = s.round.script
+
   abbrev ys : List DataSet
-  ys = new_inputs c s
+  ys = new_inputs s
 
   -- ---- what waits is idle
 
@@ -64,21 +70,21 @@ module _ (c : Script) (s : State) (checked : IsChecked c) (over : OverUnspoiled 
 
   -- ---- faults came back
 
-  by_status : (i : ℕ) → i < length c.statements → IsNoFault c s i → (wrong : Wrong) → states c ys i ≡ Fails wrong → (status : Status) → s.status i ≡ status → ⊥
+  by_status : (i : ℕ) → i < length c.statements → IsNoFault s i → (wrong : Wrong) → states c ys i ≡ Fails wrong → (status : Status) → s.status i ≡ status → ⊥
   by_status i l none wrong e Waiting at = let idle = Idle-waiting i l at in cc
   by_status i l none wrong e (Out n) at = over.over.none_out i n l at
   by_status i l none wrong e Back at = none at wrong e
   by_status i l none wrong e Spoiled at = over.unspoiled i l at
 
-  no_fault : (i : ℕ) → i < length c.statements → IsNoFault c s i → (wrong : Wrong) → states c ys i ≢ Fails wrong
+  no_fault : (i : ℕ) → i < length c.statements → IsNoFault s i → (wrong : Wrong) → states c ys i ≢ Fails wrong
   no_fault i l none wrong e = by_status i l none wrong e (s.status i) refl
 
-  pub script_wrong-first : (i : ℕ) (wrong : Wrong) → FirstFault c s i wrong → script_wrong c ys ≡ Some (At i wrong)
+  pub script_wrong-first : (i : ℕ) (wrong : Wrong) → FirstFault s i wrong → round_wrong s ≡ Some (At i wrong)
   script_wrong-first i wrong h = script_wrong-at c ys i wrong h.below h.fails (λ j l. no_fault j (omega (arith, h.below)) (h.first j l))
 
   -- ---- all came back with data sets
 
-  module _ (free : NoFault c s) where
+  module _ (free : NoFault s) where
     abbrev CameBack : ℕ → Type 0
     CameBack j = (s.status j ≡ Back) × HasSet c ys j
 
@@ -96,10 +102,10 @@ module _ (c : Script) (s : State) (checked : IsChecked c) (over : OverUnspoiled 
     is_back i l h Back at = at
     is_back i l h Spoiled at = absurd (over.unspoiled i l at)
 
-    came_back : (i : ℕ) → i < length c.statements → All (OfResult CameBack) (names_of c i) → CameBack i
-    came_back i l h =
+    came_back : c.inputs ≡ s.first.inputs → (i : ℕ) → i < length c.statements → All (OfResult CameBack) (names_of c i) → CameBack i
+    came_back same i l h =
         let back = is_back i l h (s.status i) refl in
-        let long = inputs_after-long c.inputs (take s.to s.accepted) in
+        let long = inputs-long c s.to s same in
         let named = all_named-true c ys checked long i (All-weaker (OfResult CameBack) (OfResult (λ j. is_some (set_in (states c ys j)) ≡ true)) set_from_back (names_of c i) h) in (
           back,
           elim (state_cases (states c ys i)) [
@@ -108,10 +114,11 @@ module _ (c : Script) (s : State) (checked : IsChecked c) (over : OverUnspoiled 
           ],
         )
 
-    pub came_back-all : (i : ℕ) → i < length c.statements → (s.status i ≡ Back) × HasSet c ys i
-    came_back-all i l = along_order c CameBack came_back checked i l
+    -- where the script has the inputs of the production
+    pub came_back-all : c.inputs ≡ s.first.inputs → (i : ℕ) → i < length c.statements → (s.status i ≡ Back) × HasSet c ys i
+    came_back-all same i l = along_order c CameBack (came_back same) checked i l
 
-    pub script_wrong-points : (points : List ℕ) → ArePoints c ys points → script_wrong c ys ≡ or_total None (sum points)
+    pub script_wrong-points : (points : List ℕ) → ArePoints c ys points → round_wrong s ≡ or_total None (sum points)
     script_wrong-points points h =
         script_wrong-total c ys (λ i l. no_fault i l (free i l)) ∙ ap (or_total None) (sym (points_total (length c.statements) (states c ys) points h.many h.each))
       where
@@ -132,3 +139,43 @@ or_total-few points l = let few = le-leb points POINTS_LIMIT l in rw few refl
 
 pub or_total-many : (points : ℕ) → POINTS_LIMIT < points → or_total None points ≡ Some (Total (min points 18446744073709551615))
 or_total-many points l = elim (leb_tells points POINTS_LIMIT) [ inl few ↦ absurd (omega (arith, few.1)) | inr many ↦ rw many.0 refl ]
+
+-- ---- the entry that ends a round
+
+-- after a round is over only an end may come
+module _ (s : State) (n : ℕ) (over : Over s) (P : What → Type 0) where
+  pub by_end : ((to : ℕ) → MayCome s n (Published to) → P (Published to)) → ((to : ℕ) (fault : ScriptFault) → MayCome s n (Failed to fault) → P (Failed to fault)) → ((to : ℕ) → MayCome s n (Dropped to) → P (Dropped to))
+      → (w : What) → MayCome s n w → P w
+  by_end published failed dropped (Judged r v) may = absurd (may.0 over)
+  by_end published failed dropped (Rescripted c) may = absurd (may.0 over)
+  by_end published failed dropped (Opened to) may = absurd (cc (over.open_still, may.none_open))
+  by_end published failed dropped (Claimed i) may = absurd (over.none_ready i may.1.ready)
+  by_end published failed dropped (Returned i) may = absurd (over.none_out i n may.below may.out)
+  by_end published failed dropped (GaveUp i) may = absurd (over.none_out i n may.below may.out)
+  by_end published failed dropped (Published to) may = published to may
+  by_end published failed dropped (Failed to fault) may = failed to fault may
+  by_end published failed dropped (Dropped to) may = dropped to may
+
+pub ends_dropped : (s : State) (n : ℕ) (w : What) → Over s → MayCome s n w → s.spoiled ≡ true → w ≡ Dropped s.to
+ends_dropped s n w over may spoiled =
+    by_end s n over (λ w. w ≡ Dropped s.to) (λ to may. absurd (cc (spoiled, may.1))) (λ to fault may. absurd (cc (spoiled, may.1))) (λ to may. ap (λ m. Dropped m) may.0.prefix) w may
+
+is_published : (s : State) (n : ℕ) (w : What) → Over s → MayCome s n w → s.spoiled ≡ false → round_wrong s ≡ None → w ≡ Published s.to
+is_published s n w over may clean none =
+    by_end s n over (λ w. w ≡ Published s.to) (λ to may. ap (λ m. Published m) may.0.prefix) (λ to fault may. absurd (cc (sym none ∙ may.2))) (λ to may. absurd (cc (clean, may.1))) w may
+
+pub ends_published : (s : State) (n : ℕ) (w : What) → Over s → MayCome s n w → s.spoiled ≡ false → (w ≡ Published s.to) ↔ (round_wrong s ≡ None)
+ends_published s n w over may clean = (λ e. (subst (MayCome s n) e may).2, is_published s n w over may clean)
+
+abbrev IsFailedBy : State → ScriptWrong → What → Type 0
+IsFailedBy s wrong w = (fault : ScriptFault) × (w ≡ Failed s.to fault) × (fault_said fault ≡ wrong)
+
+said_so : (s : State) (wrong said : ScriptWrong) → round_wrong s ≡ Some wrong → round_wrong s ≡ Some said → said ≡ wrong
+said_so s wrong said a b = let e : Some said ≡ Some wrong = sym b ∙ a in cc e
+
+is_failed : (s : State) (n : ℕ) (w : What) (wrong : ScriptWrong) → Over s → MayCome s n w → s.spoiled ≡ false → round_wrong s ≡ Some wrong → IsFailedBy s wrong w
+is_failed s n w wrong over may clean some =
+    by_end s n over (IsFailedBy s wrong) (λ to may. absurd (cc (sym some ∙ may.2))) (λ to fault may. (fault, ap (λ m. Failed m fault) may.0.prefix, said_so s wrong (fault_said fault) some may.2)) (λ to may. absurd (cc (clean, may.1))) w may
+
+pub ends_failed : (s : State) (n : ℕ) (w : What) (wrong : ScriptWrong) → Over s → MayCome s n w → s.spoiled ≡ false → IsFailedBy s wrong w ↔ (round_wrong s ≡ Some wrong)
+ends_failed s n w wrong over may clean = (λ h. (subst (MayCome s n) h.1 may).2 ∙ ap (λ said. Some said) h.2, is_failed s n w wrong over may clean)

@@ -1,8 +1,9 @@
 -- Prefixes, and the inputs after them.
-use Rattle.std.proofs.Common.{◌≡◌, ◌≤◌, ◌+◌, ℕ, List, [], ◌∷◌, ◌++◌, length, take, map, ◌∙◌, ap, refl, arith, length-append}
+use Rattle.std.proofs.Common.{◌≡◌, ◌≤◌, ◌+◌, ℕ, List, [], ◌∷◌, ◌++◌, length, take, map, sym, ◌∙◌, ap, refl, arith, subst, length-append}
 use Rattle.std.proofs.lemmas.List.{take-append-le, take_all, length-map}
 use Rattle.std.specs.FinMap.{empty}
-use Rattle.std.specs.List.{fold}
+use Rattle.std.specs.List.{All, fold}
+use Rattle.std.proofs.lemmas.List.Elements.{All-nil, All-push, All-weaker}
 use Rattle.std.proofs.lemmas.List.Sums.{fold-append}
 use Rattle.point_sets.specs.DataSets.{DataSet}
 use Rattle.point_sets.specs.declared.revision.Revision.{Revision}
@@ -14,11 +15,11 @@ use Rattle.transform_nodes.specs.Nodes.{AreInputs}
 use Rattle.checked_trees.specs.Scripts.{Script}
 use Rattle.round_journal.specs.declared.entry.Entry.{Entry}
 use Rattle.round_journal.specs.declared.entry.What.{What}
-use Rattle.round_journal.specs.declared.entry.What.TheVariants.{Judged, Opened, Claimed, Returned, GaveUp, Published, Failed, Dropped}
+use Rattle.round_journal.specs.declared.entry.What.TheVariants.{Judged, Opened, Published}
 use Rattle.round_journal.specs.declared.verdict.Verdict.{Verdict}
 use Rattle.round_journal.specs.declared.verdict.Verdict.TheVariants.{Accepted, Refused}
-use Rattle.round_journal.specs.Journals.{State, start, accepted_after, after, after_what, after_all, state_of, inputs, inputs_now, verdict_for, verdict_on, MayCome, Legal}
-use Rattle.round_journal.specs.Counts.{PrefixesInOrder}
+use Rattle.round_journal.specs.Journals.{State, Named, start, accepted_after, after, after_what, after_all, state_of, inputs, inputs_now, verdict_for, verdict_on, MayCome, Legal}
+use Rattle.round_journal.specs.Counts.{PrefixesInOrder, IsOfProduction}
 use Rattle.round_journal.proofs.JournalLemmas.{after_all-append, of_legal}
 
 accepted_after-long : (rs : List Revision) (r : Revision) (v : Verdict) → length rs ≤ length (accepted_after rs r v)
@@ -33,21 +34,25 @@ pub accepted-after_what : (s : State) (n : ℕ) (w : What) → length s.accepted
 accepted-after_what s n (Judged r v) = accepted_after-long s.accepted r v
 accepted-after_what s n w = omega arith
 
-pub inputs-after_what : (c : Script) (s : State) (m n : ℕ) (w : What) → m ≤ length s.accepted → inputs c m (after_what s n w) ≡ inputs c m s
-inputs-after_what c s m n (Judged r v) l = ap (inputs_after c.inputs) (take-accepted_after m s.accepted r v l)
-inputs-after_what c s m n w l = refl
+pub first-after_what : (s : State) (n : ℕ) (w : What) → (after_what s n w).first ≡ s.first
+first-after_what s n (Judged r v) = refl
+first-after_what s n w = refl
 
-pub inputs-after_all : (c : Script) (s : State) (m : ℕ) (es : List Entry) → m ≤ length s.accepted → inputs c m (after_all s es) ≡ inputs c m s
-inputs-after_all c s m [] l = refl
-inputs-after_all c s m (e ∷ es) l =
+pub inputs-after_what : (s : State) (m n : ℕ) (w : What) → m ≤ length s.accepted → inputs m (after_what s n w) ≡ inputs m s
+inputs-after_what s m n (Judged r v) l = ap (inputs_after s.first.inputs) (take-accepted_after m s.accepted r v l)
+inputs-after_what s m n w l = refl
+
+pub inputs-after_all : (s : State) (m : ℕ) (es : List Entry) → m ≤ length s.accepted → inputs m (after_all s es) ≡ inputs m s
+inputs-after_all s m [] l = refl
+inputs-after_all s m (e ∷ es) l =
     let more = accepted-after_what s e.by e.what in
-    inputs-after_all c (after s e) m es (omega arith) ∙ inputs-after_what c s m e.by e.what l
+    inputs-after_all (after s e) m es (omega arith) ∙ inputs-after_what s m e.by e.what l
 
-pub inputs-append : (c : Script) (m : ℕ) (j k : List Entry) → m ≤ length (state_of j).accepted → inputs c m (state_of (j ++ k)) ≡ inputs c m (state_of j)
-inputs-append c m j k l = ap (inputs c m) (after_all-append start j k) ∙ inputs-after_all c (state_of j) m k l
+pub inputs-append : (c : Script) (m : ℕ) (j k : List Entry) → m ≤ length (state_of c j).accepted → inputs m (state_of c (j ++ k)) ≡ inputs m (state_of c j)
+inputs-append c m j k l = ap (inputs m) (after_all-append (start c) j k) ∙ inputs-after_all (state_of c j) m k l
 
-pub inputs-all : (c : Script) (s : State) → inputs c (length s.accepted) s ≡ inputs_now c s
-inputs-all c s = ap (inputs_after c.inputs) (take_all (length s.accepted) s.accepted (omega arith))
+pub inputs-all : (s : State) → inputs (length s.accepted) s ≡ inputs_now s
+inputs-all s = ap (inputs_after s.first.inputs) (take_all (length s.accepted) s.accepted (omega arith))
 
 pub inputs_after-more : (structures : NamedStructures) (rs : List Revision) (r : Revision) → inputs_after structures (rs ++ r ∷ []) ≡ inputs_then structures (inputs_after structures rs) r
 inputs_after-more structures rs r = fold-append (inputs_then structures) (no_points structures) rs (r ∷ [])
@@ -57,8 +62,8 @@ judged_so : (structures : NamedStructures) (rs : List Revision) (r : Revision) (
 judged_so structures rs r n (Fit nexts) e = inputs_after-more structures rs r ∙ ap (settled (inputs_after structures rs)) e
 judged_so structures rs r n (RefusedFor refusal) e = refl
 
-pub inputs_now-judged : (c : Script) (s : State) (n : ℕ) (r : Revision) → inputs_now c (after_what s n (Judged r (verdict_on c s r))) ≡ settled (inputs_now c s) (judged c.inputs (inputs_now c s) r)
-inputs_now-judged c s n r = judged_so c.inputs s.accepted r (length s.accepted + 1) (judged c.inputs (inputs_now c s) r) refl
+pub inputs_now-judged : (s : State) (n : ℕ) (r : Revision) → inputs_now (after_what s n (Judged r (verdict_on s r))) ≡ settled (inputs_now s) (judged s.first.inputs (inputs_now s) r)
+inputs_now-judged s n r = judged_so s.first.inputs s.accepted r (length s.accepted + 1) (judged s.first.inputs (inputs_now s) r) refl
 
 -- ---- one data set for each structure
 
@@ -76,16 +81,34 @@ AreInputs-judged [] (x ∷ xs) h = absurd h
 AreInputs-judged (named ∷ structures) [] h = absurd h
 AreInputs-judged (named ∷ structures) (x ∷ xs) h = (h.0, AreInputs-judged structures xs h.1)
 
-pub AreInputs-at : (c : Script) (n : ℕ) (s : State) → AreInputs c (inputs c n s)
-AreInputs-at c n s = AreInputs-judged c.inputs (inputs c n s) (inputs_after-fit c.inputs (take n s.accepted))
+pub AreInputs-at : (c : Script) (n : ℕ) (s : State) → IsOfProduction s c → AreInputs c (inputs n s)
+AreInputs-at c n s of_it =
+    subst (λ (structures : NamedStructures). AreOperands (map (λ named. named.1) structures) (inputs n s)) (sym of_it.same_inputs)
+    (AreInputs-judged s.first.inputs (inputs n s) (inputs_after-fit s.first.inputs (take n s.accepted)))
+
+-- the inputs of a script of the production are as many as the data sets
+pub inputs-long : (c : Script) (n : ℕ) (s : State) → c.inputs ≡ s.first.inputs → length (inputs n s) ≡ length c.inputs
+inputs-long c n s same = inputs_after-long s.first.inputs (take n s.accepted) ∙ ap length (sym same)
 
 -- ---- prefixes
 
-pub PrefixesInOrder-keeps : (c : Script) (s : State) (n : ℕ) (w : What) → MayCome c s n w → PrefixesInOrder s → PrefixesInOrder (after_what s n w)
-PrefixesInOrder-keeps c s n (Judged r v) may p = record { base_below = p.base_below; to_below = omega (arith, accepted_after-long s.accepted r v, p.to_below) }
-PrefixesInOrder-keeps c s n (Opened to) may p = record { base_below = omega (arith, may.all, p.base_below, p.to_below); to_below = omega (arith, may.all) }
-PrefixesInOrder-keeps c s n (Published to) may p = record { base_below = omega (arith, may.0.prefix); to_below = p.to_below }
-PrefixesInOrder-keeps c s n w may p = record { base_below = p.base_below; to_below = p.to_below }
+abbrev IsBelow : ℕ → Named → Type 0
+IsBelow n named = named.prefix ≤ n
 
-pub PrefixesInOrder-legal : (c : Script) (j : List Entry) → Legal c j → PrefixesInOrder (state_of j)
-PrefixesInOrder-legal c = of_legal c PrefixesInOrder (λ s e. PrefixesInOrder-keeps c s e.by e.what) (record { base_below = omega arith; to_below = omega arith })
+below_more : (m n : ℕ) → m ≤ n → (xs : List Named) → All (IsBelow m) xs → All (IsBelow n) xs
+below_more m n l = All-weaker (IsBelow m) (IsBelow n) (λ named h. omega (arith, h))
+
+pub PrefixesInOrder-keeps : (s : State) (n : ℕ) (w : What) → MayCome s n w → PrefixesInOrder s → PrefixesInOrder (after_what s n w)
+PrefixesInOrder-keeps s n (Judged r v) may p =
+    let more = accepted_after-long s.accepted r v in
+    record { earlier_below = below_more (length s.accepted) (length (accepted_after s.accepted r v)) more s.earlier p.earlier_below; latest_below = p.latest_below; to_below = omega (arith, more, p.to_below) }
+PrefixesInOrder-keeps s n (Opened to) may p = record { earlier_below = p.earlier_below; latest_below = omega (arith, may.all, p.latest_below, p.to_below); to_below = omega (arith, may.all) }
+PrefixesInOrder-keeps s n (Published to) may p = record {
+  earlier_below = All-push (IsBelow (length s.accepted)) s.earlier s.latest p.earlier_below (omega (arith, p.latest_below, p.to_below));
+  latest_below = omega (arith, may.0.prefix);
+  to_below = p.to_below;
+}
+PrefixesInOrder-keeps s n w may p = record { earlier_below = p.earlier_below; latest_below = p.latest_below; to_below = p.to_below }
+
+pub PrefixesInOrder-legal : (c : Script) (j : List Entry) → Legal c j → PrefixesInOrder (state_of c j)
+PrefixesInOrder-legal c = of_legal c PrefixesInOrder (λ s e. PrefixesInOrder-keeps s e.by e.what) (record { earlier_below = All-nil (IsBelow 0); latest_below = omega arith; to_below = omega arith })

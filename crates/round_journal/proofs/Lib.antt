@@ -1,5 +1,7 @@
 pub mod JournalLemmas
 pub mod InputLemmas
+pub mod ProductionLemmas
+pub mod WordLemmas
 pub mod CountLemmas
 pub mod StandLemmas
 pub mod ReleaseLemmas

@@ -1,5 +1,5 @@
 -- Releases, one entry further.
-use Rattle.std.proofs.Common.{◌≡◌, ◌+◌, ℕ, suc, List, [], ◌∷◌, ◌++◌, length, get_or, Option, Some, sym, ◌∙◌, ap, refl, arith, subst}
+use Rattle.std.proofs.Common.{◌≡◌, ◌≤◌, ◌+◌, ℕ, zero, suc, List, [], ◌∷◌, ◌++◌, length, get_or, Option, Some, sym, ◌∙◌, ap, refl, arith, subst, length-append}
 use Rattle.std.specs.Option.{unwrap_or}
 use Rattle.std.specs.List.{slice_get}
 use Rattle.std.specs.FinMap.{empty}
@@ -14,54 +14,91 @@ use Rattle.transform_nodes.specs.Nodes.{operand_on, published}
 use Rattle.round_journal.specs.declared.entry.Entry.{Entry}
 use Rattle.release_text.specs.declared.release.Release.{Release}
 use Rattle.round_journal.specs.declared.entry.What.{What}
-use Rattle.round_journal.specs.declared.entry.What.TheVariants.{Judged, Opened, Claimed, Returned, GaveUp, Published, Failed, Dropped}
-use Rattle.round_journal.specs.Journals.{State, start, after, after_what, state_of, inputs, new_inputs, MayCome, Legal}
-use Rattle.round_journal.specs.Releases.{IsRelease, and_page, pages_from, pages_on}
-use Rattle.round_journal.specs.Counts.{PrefixesInOrder, GoesForward, IsNoRelease}
+use Rattle.round_journal.specs.declared.entry.What.TheVariants.{Published}
+use Rattle.round_journal.specs.Journals.{State, Named, start, number, after, after_what, after_all, state_of, new_inputs, MayCome, Legal}
+use Rattle.round_journal.specs.Releases.{IsReleaseOf, IsRelease, released, and_page, pages_from, pages_on}
+use Rattle.round_journal.specs.Counts.{PrefixesInOrder, ScriptsInOrder, GoesForward, IsNoRelease}
 use Rattle.round_journal.proofs.JournalLemmas.{after_all-append, LegalFrom-parts, after_all-keeps}
 use Rattle.round_journal.proofs.InputLemmas.{inputs-after_what, PrefixesInOrder-keeps, PrefixesInOrder-legal}
+use Rattle.round_journal.proofs.ProductionLemmas.{ScriptsInOrder-keeps, ScriptsInOrder-legal}
 
-pub IsRelease-made : (c : Script) (s : State) (n : ℕ) (r : Release) → r.number ≡ s.number + 1 → r.prefix ≡ s.to → r.pages ≡ pages_on c (new_inputs c s) → IsRelease c (after_what s n (Published s.to)) r
-IsRelease-made c s n r number prefix pages = record { number_is = number; prefix_is = prefix; pages_are = pages }
+pub IsRelease-made : (s : State) (n : ℕ) (r : Release) → r.number ≡ number s + 1 → r.prefix ≡ s.to → r.script ≡ s.round.number → r.pages ≡ pages_on s.round.script (new_inputs s) → IsRelease (after_what s n (Published s.to)) r
+IsRelease-made s n r number prefix script pages = record { number_is = omega (arith, number, length-append s.earlier (s.latest ∷ [])); prefix_is = prefix; script_is = script; pages_are = pages }
 
--- a release goes by the number and the prefix, and by the inputs there
-IsRelease-same : (c : Script) (s t : State) (r : Release) → t.number ≡ s.number → t.base ≡ s.base → inputs c s.base t ≡ inputs c s.base s → IsRelease c s r → IsRelease c t r
-IsRelease-same c s t r number base same h = record {
-  number_is = h.number_is ∙ sym number;
-  prefix_is = h.prefix_is ∙ sym base;
-  pages_are = h.pages_are ∙ ap (pages_on c) (sym same ∙ ap (λ m. inputs c m t) (sym base));
+-- a release goes by the inputs there
+pub IsReleaseOf-stays : (s : State) (n k : ℕ) (w : What) (named : Named) (r : Release) → named.prefix ≤ length s.accepted → IsReleaseOf s k named r → IsReleaseOf (after_what s n w) k named r
+IsReleaseOf-stays s n k w named r l h = record {
+  number_is = h.number_is;
+  prefix_is = h.prefix_is;
+  script_is = h.script_is;
+  pages_are = h.pages_are ∙ ap (pages_on named.script.script) (sym (inputs-after_what s named.prefix n w l));
 }
 
-pub IsRelease-stays : (c : Script) (s : State) (n : ℕ) (w : What) (r : Release) → PrefixesInOrder s → IsNoRelease w → IsRelease c s r → IsRelease c (after_what s n w) r
-IsRelease-stays c s n w r p none h = IsRelease-same c s (after_what s n w) r (number w none) (base w none) (inputs-after_what c s s.base n w (omega (arith, p.base_below, p.to_below))) h
-  where
-    number : (w : What) → IsNoRelease w → (after_what s n w).number ≡ s.number
-    number (Published to) h = absurd h
-    number w h = refl
+pub latest-stays : (s : State) (n : ℕ) (w : What) → IsNoRelease w → ((after_what s n w).latest ≡ s.latest) × ((after_what s n w).earlier ≡ s.earlier)
+latest-stays s n (Published to) h = absurd h
+latest-stays s n w h = (refl, refl)
 
-    base : (w : What) → IsNoRelease w → (after_what s n w).base ≡ s.base
-    base (Published to) h = absurd h
-    base w h = refl
+pub IsRelease-stays : (s : State) (n : ℕ) (w : What) (r : Release) → PrefixesInOrder s → IsNoRelease w → IsRelease s r → IsRelease (after_what s n w) r
+IsRelease-stays s n w r p none h =
+    let same = latest-stays s n w none in
+    subst (λ (named : Named). IsReleaseOf (after_what s n w) (length (after_what s n w).earlier) named r) (sym same.0)
+    (subst (λ (earlier : List Named). IsReleaseOf (after_what s n w) (length earlier) s.latest r) (sym same.1) (IsReleaseOf-stays s n (number s) w s.latest r (omega (arith, p.latest_below, p.to_below)) h))
+
+-- ---- what was released stays so
+
+slice_get-front : {X : Type 0} (xs ys : List X) (n : ℕ) (x : X) → slice_get xs n ≡ Some x → slice_get (xs ++ ys) n ≡ Some x
+slice_get-front [] ys n x e = cc
+slice_get-front (y ∷ xs) ys zero x e = e
+slice_get-front (y ∷ xs) ys (suc n) x e = slice_get-front xs ys n x e
+
+released-one : (s : State) (m : ℕ) (w : What) (n : ℕ) (named : Named) → slice_get (released s) n ≡ Some named → slice_get (released (after_what s m w)) n ≡ Some named
+released-one s m (Published to) n named e = slice_get-front (released s) (record { prefix = to; script = s.round } ∷ []) n named e
+released-one s m w n named e = e
+
+released-all : (s : State) (k : List Entry) (n : ℕ) (named : Named) → slice_get (released s) n ≡ Some named → slice_get (released (after_all s k)) n ≡ Some named
+released-all s [] n named h = h
+released-all s (e ∷ k) n named h = released-all (after s e) k n named (released-one s e.by e.what n named h)
+
+pub released-journal : (c : Script) (j k : List Entry) (n : ℕ) (named : Named) → slice_get (released (state_of c j)) n ≡ Some named → slice_get (released (state_of c (j ++ k))) n ≡ Some named
+released-journal c j k n named h =
+    subst (λ (t : State). slice_get (released t) n ≡ Some named) (sym (after_all-append (start c) j k)) (released-all (state_of c j) k n named h)
 
 -- ---- later releases
 
-GoesForward-one : (c : Script) (first s : State) (n : ℕ) (w : What) → MayCome c s n w → PrefixesInOrder s → GoesForward first s → GoesForward first (after_what s n w)
-GoesForward-one c first s n (Published to) may p h = record { number = omega (arith, h.number); base = omega (arith, h.base, p.base_below, may.0.prefix); same = λ e. absurd (omega (arith, h.number, e)) }
-GoesForward-one c first s n w may p h = record { number = h.number; base = h.base; same = h.same }
-
 record IsLater (first s : State) : Type 0 where
   pub in_order : PrefixesInOrder s
+  pub scripts : ScriptsInOrder s
   pub forward : GoesForward first s
 
-IsLater-one : (c : Script) (first s : State) (e : Entry) → MayCome c s e.by e.what → IsLater first s → IsLater first (after s e)
-IsLater-one c first s e may h = record { in_order = PrefixesInOrder-keeps c s e.by e.what may h.in_order; forward = GoesForward-one c first s e.by e.what may h.in_order h.forward }
+GoesForward-one : (first s : State) (n : ℕ) (w : What) → MayCome s n w → IsLater first s → GoesForward first (after_what s n w)
+GoesForward-one first s n (Published to) may h =
+    let more = length-append s.earlier (s.latest ∷ []) in
+    let f = h.forward in
+    record {
+      number = omega (arith, f.number, more);
+      prefix = omega (arith, f.prefix, h.in_order.latest_below, may.0.prefix);
+      script = omega (arith, f.script, h.scripts.latest_below);
+      same = λ e. absurd (omega (arith, f.number, more, e));
+    }
+GoesForward-one first s n w may h = record { number = h.forward.number; prefix = h.forward.prefix; script = h.forward.script; same = h.forward.same }
 
-pub GoesForward-journal : (c : Script) (j k : List Entry) → Legal c (j ++ k) → GoesForward (state_of j) (state_of (j ++ k))
+IsLater-one : (first s : State) (e : Entry) → MayCome s e.by e.what → IsLater first s → IsLater first (after s e)
+IsLater-one first s e may h = record {
+  in_order = PrefixesInOrder-keeps s e.by e.what may h.in_order;
+  scripts = ScriptsInOrder-keeps s e.by e.what may h.scripts;
+  forward = GoesForward-one first s e.by e.what may h;
+}
+
+pub GoesForward-journal : (c : Script) (j k : List Entry) → Legal c (j ++ k) → GoesForward (state_of c j) (state_of c (j ++ k))
 GoesForward-journal c j k legal =
-    let parts = LegalFrom-parts c start j k legal in
-    let s : State = state_of j in
-    let first : IsLater s s = record { in_order = PrefixesInOrder-legal c j parts.0; forward = record { number = omega arith; base = omega arith; same = λ _. refl } } in
-    subst (λ (t : State). GoesForward s t) (sym (after_all-append start j k)) (after_all-keeps c (IsLater s) (IsLater-one c s) s k parts.1 first).forward
+    let parts = LegalFrom-parts (start c) j k legal in
+    let s : State = state_of c j in
+    let first : IsLater s s = record {
+      in_order = PrefixesInOrder-legal c j parts.0;
+      scripts = ScriptsInOrder-legal c j parts.0;
+      forward = record { number = omega arith; prefix = omega arith; script = omega arith; same = λ _. refl };
+    } in
+    subst (λ (t : State). GoesForward s t) (sym (after_all-append (start c) j k)) (after_all-keeps (IsLater s) (IsLater-one s) s k parts.1 first).forward
 
 -- ---- pages, statement by statement
 

@@ -7,32 +7,32 @@ use Rattle.operator_meaning.specs.Scripts.{Has, Fails, states, points_in}
 use Rattle.round_journal.specs.Journals.{State, Back, Spoiled, Over, new_inputs}
 
 -- no statement was given up
-abbrev pub NoneSpoiled : Script → State → Type 0
-NoneSpoiled c s = (i : ℕ) → i < length c.statements → s.status i ≢ Spoiled
+abbrev pub NoneSpoiled : State → Type 0
+NoneSpoiled s = (i : ℕ) → i < length s.round.script.statements → s.status i ≢ Spoiled
 
 -- the round is over, and no statement was given up
-pub record OverUnspoiled (c : Script) (s : State) : Type 0 where
-  pub over : Over c s
-  pub unspoiled : NoneSpoiled c s
+pub record OverUnspoiled (s : State) : Type 0 where
+  pub over : Over s
+  pub unspoiled : NoneSpoiled s
 
 -- the statement has a data set on the inputs
 abbrev pub HasSet : Script → List DataSet → ℕ → Type 0
 HasSet c xs i = (e : Evaluated) × (states c xs i ≡ Has e)
 
 -- a statement that came back has no fault on the round's inputs
-abbrev pub IsNoFault : Script → State → ℕ → Type 0
-IsNoFault c s i = s.status i ≡ Back → (wrong : Wrong) → states c (new_inputs c s) i ≢ Fails wrong
+abbrev pub IsNoFault : State → ℕ → Type 0
+IsNoFault s i = s.status i ≡ Back → (wrong : Wrong) → states s.round.script (new_inputs s) i ≢ Fails wrong
 
 -- of the statements that came back, this is the first in the script that has a fault, and this is its fault
-pub record FirstFault (c : Script) (s : State) (i : ℕ) (wrong : Wrong) : Type 0 where
-  pub below : i < length c.statements
+pub record FirstFault (s : State) (i : ℕ) (wrong : Wrong) : Type 0 where
+  pub below : i < length s.round.script.statements
   pub back : s.status i ≡ Back
-  pub fails : states c (new_inputs c s) i ≡ Fails wrong
-  pub first : (j : ℕ) → j < i → IsNoFault c s j
+  pub fails : states s.round.script (new_inputs s) i ≡ Fails wrong
+  pub first : (j : ℕ) → j < i → IsNoFault s j
 
 -- none of the statements that came back has a fault
-abbrev pub NoFault : Script → State → Type 0
-NoFault c s = (i : ℕ) → i < length c.statements → IsNoFault c s i
+abbrev pub NoFault : State → Type 0
+NoFault s = (i : ℕ) → i < length s.round.script.statements → IsNoFault s i
 
 -- the points of each statement's operators on the inputs
 pub record ArePoints (c : Script) (xs : List DataSet) (points : List ℕ) : Type 0 where

@@ -3,3 +3,4 @@ pub mod Stands
 pub mod Releases
 pub mod Ends
 pub mod Counts
+pub mod Words

@@ -1,5 +1,5 @@
 -- Releases (docs/formats.md, "Releases").
-use Rattle.std.specs.Prelude.{◌≡◌, ℕ, ◌+◌, List, [], ◌∷◌, Option, Some, None}
+use Rattle.std.specs.Prelude.{◌≡◌, ℕ, ◌+◌, ◌-◌, List, [], ◌∷◌, ◌++◌, Option, Some, None, slice_get}
 use Rattle.point_sets.specs.DataSets.{DataSet}
 use Rattle.checked_trees.specs.declared.script.CheckedStatement.{CheckedStatement}
 use Rattle.checked_trees.specs.declared.tree.Source.TheVariants.{Result as ResultOf}
@@ -7,7 +7,7 @@ use Rattle.checked_trees.specs.Scripts.{Script}
 use Rattle.release_text.specs.Releases.{Page}
 use Rattle.release_text.specs.declared.release.Release.{Release}
 use Rattle.transform_nodes.specs.Nodes.{operand_on, published}
-use Rattle.round_journal.specs.Journals.{State, old_inputs}
+use Rattle.round_journal.specs.Journals.{State, Named, number, inputs}
 
 abbrev pub and_page : Option Page → List Page → List Page
 and_page None pages = pages
@@ -22,8 +22,27 @@ pages_from c xs i (statement ∷ rest) = and_page (published statement (operand_
 abbrev pub pages_on : Script → List DataSet → List Page
 pages_on c xs = pages_from c xs 0 c.statements
 
--- the release is that of the last published round, or release 0: its pages are the script's meaning on the inputs after its prefix
-pub record IsRelease (c : Script) (s : State) (r : Release) : Type 0 where
-  pub number_is : r.number ≡ s.number
-  pub prefix_is : r.prefix ≡ s.base
-  pub pages_are : r.pages ≡ pages_on c (old_inputs c s)
+-- the release has this number, and names this prefix and this script: its pages are the script's meaning on the inputs after the prefix
+pub record IsReleaseOf (s : State) (n : ℕ) (named : Named) (r : Release) : Type 0 where
+  pub number_is : r.number ≡ n
+  pub prefix_is : r.prefix ≡ named.prefix
+  pub script_is : r.script ≡ named.script.number
+  pub pages_are : r.pages ≡ pages_on named.script.script (inputs named.prefix s)
+
+-- it is that of the last published round, or release 0
+abbrev pub IsRelease : State → Release → Type 0
+IsRelease s = IsReleaseOf s (number s) s.latest
+
+-- all that were released, in the order of their numbers from 0
+abbrev pub released : State → List Named
+released s = s.earlier ++ s.latest ∷ []
+
+-- it is the release with this number
+pub record IsReleaseAt (s : State) (n : ℕ) (r : Release) : Type 0 where
+  pub named : Named
+  pub is_named : slice_get (released s) n ≡ Some named
+  pub is_release : IsReleaseOf s n named r
+
+-- the last 64 releases are kept: the number of the oldest of them
+abbrev pub oldest_kept : State → ℕ
+oldest_kept s = number s - 63

@@ -1,16 +1,22 @@
 // What a journal lists.
 
 use crate::verdict::{ScriptFault, Verdict};
+use checked_trees::CheckedScript;
 use point_sets::Revision;
 use sqlite_items::Items;
+use std::sync::Arc;
 
 /// What happened in a turn.
-#[derive(Debug, Drop)]
+#[derive(Drop)]
 pub enum What {
     /// A revision was judged.
     Judged {
         revision: Revision,
         verdict: Verdict,
+    },
+    /// The script was replaced: rounds that are opened from then on are of this one.
+    Rescripted {
+        script: Arc<CheckedScript>,
     },
     /// A round was opened over so many accepted revisions.
     Opened {
@@ -44,14 +50,14 @@ pub enum What {
 }
 
 /// What happened, and the number of the caller.
-#[derive(Debug, Drop)]
+#[derive(Drop)]
 pub struct Entry {
     pub by: u64,
     pub what: What,
 }
 
 /// All that happened, in order.
-#[derive(Debug, Drop)]
+#[derive(Drop)]
 pub struct Journal {
     pub entries: Items<Entry>,
 }

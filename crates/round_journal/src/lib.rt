@@ -2,9 +2,10 @@
 //!
 //! It stands on the works of `transform_nodes`, on the judge of `revision_judge` and on the releases of `release_text`.
 //! `specs/Journals.antt` reads a journal entry by entry into what it says, and says which entry may come next;
-//! `specs/Stands.antt` says which works stand for a journal, and `specs/Releases.antt` which release is its latest. `laws`
-//! promises what a production and its readers go by: what stands for a journal stands for longer ones, inputs after a
-//! prefix stay, a round ends by what came back in it, what is set aside is enough, and releases go forward.
+//! `specs/Words.antt` tells what it says from the entries alone; `specs/Stands.antt` says which works stand for a journal,
+//! and `specs/Releases.antt` which releases it made. `laws` promises what a production and its readers go by: what stands
+//! for a journal stands for longer ones, inputs after a prefix stay, scripts of one number are the same, a round ends by
+//! what came back in it, what is set aside is enough, and releases stay and go forward.
 #![tactic(auto)]
 
 pub mod entry;

@@ -1,4 +1,4 @@
-use Rattle.std.proofs.Common.{ap, arith}
+use Rattle.std.proofs.Common.{arith}
 use Rattle.std.proofs.Common.{below_more}
 use Rattle.round_core.proofs.ends.any_ready.Goals as goal
 

@@ -1,4 +1,3 @@
-use Rattle.std.proofs.Common.{arith}
 use Rattle.round_core.proofs.StepLemmas.{first_ready_at}
 use Rattle.round_core.proofs.ends.first_ready.Goals as goal
 

@@ -1,4 +1,3 @@
-use Rattle.std.proofs.Common.{arith}
 use Rattle.round_core.proofs.ends.is_still.Goals as goal
 
 pub returns-then-any_ready-clause-moves : goal.returns-then-any_ready-clause-moves

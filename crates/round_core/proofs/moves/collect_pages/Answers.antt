@@ -1,4 +1,4 @@
-use Rattle.std.proofs.Common.{◌≡◌, subst, sym, refl, ◌∙◌, ap, arith, ◌+◌, ◌<◌, ◌≤◌, ◌++◌, ℕ, List, [], length, get_or}
+use Rattle.std.proofs.Common.{◌≡◌, subst, sym, refl, ◌∙◌, ap, arith, ◌<◌, ◌++◌, [], length, get_or}
 use Rattle.round_core.specs.declared.slot.Slot.{Slot}
 use Rattle.round_journal.specs.Releases.{and_page}
 use Rattle.round_core.specs.Slots.{SameHome, pages_of_stage}

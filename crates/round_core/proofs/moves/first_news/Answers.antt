@@ -1,8 +1,7 @@
-use Rattle.std.proofs.Common.{◌≡◌, subst, sym, refl, ◌∙◌, ap, arith, ◌+◌, ◌<◌, ℕ, List, length, get_or}
+use Rattle.std.proofs.Common.{subst, sym, arith, List, get_or}
 use Rattle.std.specs.declared.sync.Arc.{Arc}
 use Rattle.std.specs.declared.alloc.Global.{Global}
 use Rattle.point_sets.specs.Changes.{Changes}
-use Rattle.checked_trees.specs.declared.tree.Source.{Source}
 use Rattle.round_core.specs.Steps.{IsFirstNews}
 use Rattle.round_core.proofs.Lists.{each_push}
 use Rattle.round_core.proofs.StepLemmas.{first_at}

@@ -1,4 +1,4 @@
-use Rattle.std.proofs.Common.{[], ◌≡◌, ap, ◌∙◌, ◌++◌, arith, refl}
+use Rattle.std.proofs.Common.{[], ap, ◌∙◌, ◌++◌}
 use Rattle.std.specs.FinMap.{empty}
 use Rattle.transform_nodes.specs.Nodes.{published}
 use Rattle.round_journal.specs.Releases.{and_page}

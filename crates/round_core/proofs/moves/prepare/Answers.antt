@@ -1,4 +1,4 @@
-use Rattle.std.proofs.Common.{◌≡◌, subst, sym, refl, ◌∙◌, ap, arith, ◌+◌, ◌<◌, ◌≤◌, ◌++◌, ℕ, List, [], length, get_or}
+use Rattle.std.proofs.Common.{subst, ◌∙◌, arith, ◌<◌, length}
 use Rattle.round_core.specs.declared.slot.Slot.{Slot}
 use Rattle.round_core.specs.Slots.{SameHome}
 use Rattle.round_core.specs.Steps.{IsPrepared}

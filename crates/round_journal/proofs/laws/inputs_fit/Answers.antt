@@ -4,7 +4,7 @@ use Rattle.round_journal.proofs.InputLemmas.{AreInputs-judged, AreInputs-at}
 use Rattle.round_journal.proofs.laws.inputs_fit.Goals as goal
 
 pub returns-clause-judged : goal.returns-clause-judged
-returns-clause-judged c = λ s n t. inputs_after-fit s.inputs (take n t.accepted)
+returns-clause-judged c = λ n s. inputs_after-fit s.first.inputs (take n s.accepted)
 
 pub returns-clause-same : goal.returns-clause-same
 returns-clause-same c = λ s xs h. AreInputs-judged s.inputs xs h

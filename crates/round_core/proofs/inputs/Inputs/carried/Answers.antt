@@ -1,4 +1,4 @@
-use Rattle.std.proofs.Common.{subst, sym, refl, ◌∙◌, ap, arith, ◌+◌, ◌<◌, ℕ, List, length, get_or}
+use Rattle.std.proofs.Common.{subst, sym, ◌∙◌, ap, arith, List, length, get_or}
 use Rattle.round_core.specs.declared.inputs.InputChange.{InputChange}
 use Rattle.round_core.specs.Inputs.{Carries}
 use Rattle.round_core.proofs.Lists.{each_push, get_or_any}

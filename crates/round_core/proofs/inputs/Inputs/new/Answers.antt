@@ -1,4 +1,4 @@
-use Rattle.std.proofs.Common.{◌≡◌, subst, sym, refl, ◌∙◌, ap, arith, ◌+◌, ◌<◌, ℕ, List, length, get_or}
+use Rattle.std.proofs.Common.{◌≡◌, subst, sym, arith, List, get_or}
 use Rattle.std.specs.FinMap.{empty}
 use Rattle.point_sets.specs.DataSets.{DataSet}
 use Rattle.round_core.specs.declared.inputs.InputChange.{InputChange}

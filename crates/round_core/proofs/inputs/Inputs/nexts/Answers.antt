@@ -1,4 +1,4 @@
-use Rattle.std.proofs.Common.{◌≡◌, ◌++◌, ◌∷◌, [], List, sym, subst}
+use Rattle.std.proofs.Common.{◌≡◌, ◌++◌, ◌∷◌, [], sym, subst}
 use Rattle.std.specs.List.{All}
 use Rattle.revision_judge.specs.declared.ruling.Share.{Share}
 use Rattle.revision_judge.proofs.Finished.{one-more, front}

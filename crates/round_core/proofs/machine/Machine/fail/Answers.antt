@@ -1,7 +1,7 @@
-use Rattle.std.proofs.Common.{◌≡◌, sym, ◌∙◌, ap, arith, refl, subst}
+use Rattle.std.proofs.Common.{sym, ◌∙◌, ap, arith, refl, subst}
 use Rattle.round_core.specs.declared.slot.Slot.{Slot}
 use Rattle.round_core.specs.Kept.{KeptMachine}
-use Rattle.round_core.proofs.EndLemmas.{Ended, room_left, kept_failed, fault_is, first_fault, same_homes_set}
+use Rattle.round_core.proofs.EndLemmas.{Ended, room_left, kept_failed, fault_is, same_homes_set}
 use Rattle.round_core.proofs.machine.Machine.fail.Goals as goal
 
 pub close-requires : goal.close-requires

@@ -1,7 +1,8 @@
-use Rattle.std.proofs.Common.{subst, sym, ◌∙◌, ap, arith, refl}
+use Rattle.std.proofs.Common.{subst, sym, arith}
 use Rattle.transform_nodes.specs.declared.work.Finish.{Finish}
 use Rattle.transform_nodes.specs.Nodes.{FinishFor}
-use Rattle.round_journal.specs.Journals.{state_of, old_inputs, new_inputs}
+use Rattle.round_journal.specs.Journals.{old_inputs, new_inputs}
+use Rattle.round_core.specs.Kept.{state_at}
 use Rattle.round_core.specs.declared.machine.Machine.{Machine}
 use Rattle.round_core.specs.Steps.{OpenStill}
 use Rattle.round_core.proofs.GiveLemmas.{comes_with, aside_two}
@@ -13,7 +14,7 @@ hand_on-requires c =
     let a = c.args.self.now in
     let d = c.args.done in
     let p = comes_with a c.args.by d c.requires.out c.requires.stands in
-    let right = subst (λ (f : Finish). FinishFor a.script d.node (old_inputs a.script (state_of a.journal.items)) (new_inputs a.script (state_of a.journal.items)) f) c.in-Right.is p.1 in
+    let right = subst (λ (f : Finish). FinishFor (state_at a).round.script d.node (old_inputs (state_at a)) (new_inputs (state_at a)) f) c.in-Right.is p.1 in
     enough_changes a c.args.by d.statement c.in-Right.deltas d.node c.in-Right.points c.in-Right.pages c.requires.kept p.0 right
 
 pub put-requires-clause-aside : goal.put-requires-clause-aside
@@ -39,7 +40,7 @@ returns-in-Right-clause-still c =
     let a = c.args.self.now in
     let d = c.args.done in
     let p = comes_with a c.args.by d c.requires.out c.requires.stands in
-    let right = subst (λ (f : Finish). FinishFor a.script d.node (old_inputs a.script (state_of a.journal.items)) (new_inputs a.script (state_of a.journal.items)) f) c.in-Right.is p.1 in
+    let right = subst (λ (f : Finish). FinishFor (state_at a).round.script d.node (old_inputs (state_at a)) (new_inputs (state_at a)) f) c.in-Right.is p.1 in
     let s = c.put.ensures.slots in
     subst (λ (m : Machine). OpenStill m c.args.by) (sym c.put.ensures.rest) (still_right a c.put.new.self.journal c.put.new.self.slots c.hand_on.new.slots.items s.0 d.statement c.args.by d.node c.in-Right.deltas c.in-Right.points c.in-Right.pages c.requires.kept p.0 right c.hand_on.ensures.many c.hand_on.ensures.each s.1 s.2 c.put.ensures.items c.put.ensures.capacity)
 
@@ -48,7 +49,7 @@ returns-in-Fault-clause-still c =
     let a = c.args.self.now in
     let d = c.args.done in
     let p = comes_with a c.args.by d c.requires.out c.requires.stands in
-    let wrong = subst (λ (f : Finish). FinishFor a.script d.node (old_inputs a.script (state_of a.journal.items)) (new_inputs a.script (state_of a.journal.items)) f) c.in-Fault.is p.1 in
+    let wrong = subst (λ (f : Finish). FinishFor (state_at a).round.script d.node (old_inputs (state_at a)) (new_inputs (state_at a)) f) c.in-Fault.is p.1 in
     let s = c.put-in-Fault.ensures.slots in
     subst (λ (m : Machine). OpenStill m c.args.by) (sym c.put-in-Fault.ensures.rest) (still_wrong a c.put-in-Fault.new.self.journal c.put-in-Fault.new.self.slots s.0 d.statement c.args.by d.node c.in-Fault.kept c.in-Fault.told c.requires.kept p.0 wrong s.1 s.2 c.put-in-Fault.ensures.items c.put-in-Fault.ensures.capacity)
 

@@ -1,4 +1,4 @@
-use Rattle.std.proofs.Common.{◌≡◌, subst, sym, refl, ◌∙◌, ap, arith, inr, List, [], ◌∷◌, ◌≤◌, Bool, cond}
+use Rattle.std.proofs.Common.{subst, sym, refl, arith, inr, List, [], ◌∷◌, ◌≤◌, Bool, cond}
 use Rattle.std.specs.declared.sync.Arc.{Arc}
 use Rattle.std.specs.declared.alloc.Global.{Global}
 use Rattle.std.specs.List.{Contains}
