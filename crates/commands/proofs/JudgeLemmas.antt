@@ -5,15 +5,15 @@ use Rattle.std.proofs.lemmas.Bool.Decides.{nat_tests}
 use Rattle.std.proofs.lemmas.List.Sums.{fold-append, sum-map, sum_by-append}
 use Rattle.point_sets.specs.declared.revision.Revision.{Revision}
 use Rattle.checked_trees.specs.Scripts.{Script, IsChecked}
-use Rattle.revision_judge.specs.Judging.{Judgement, Fit, Refused as RefusedFor, judged}
-use Rattle.round_journal.specs.Journals.{State, fields_of, accepted_after, verdict_for, verdict_on, inputs_now}
+use Rattle.revision_judge.specs.Judging.{Judgement, Fit, Refused as RefusedFor, judged, inputs_after}
+use Rattle.round_journal.specs.Journals.{State, fields_of, accepted_after, round_need, verdict_for, verdict_on}
 use Rattle.round_journal.specs.declared.entry.What.TheVariants.{Judged}
 use Rattle.round_journal.specs.declared.verdict.Verdict.{Verdict}
 use Rattle.round_core.specs.declared.limits.Limits.{Limits}
 use Rattle.round_core.specs.Answers.{full_for, entries_wanting, fields_wanting}
 use Rattle.round_core.specs.Seen.{Seen, state_in, seen_with}
 use Rattle.commands.specs.declared.eval.Verdicts.{Verdicts}
-use Rattle.commands.specs.Eval.{Judging, at_first, judge_next}
+use Rattle.commands.specs.Eval.{Judging, at_first, judge_next, verdict_after}
 use Rattle.commands.specs.Lines.{verdict_line}
 use Rattle.commands.specs.Runs.{LIMITS, IsVerdictOn, IsFew, IsFirst, JudgedSo, JudgesNext, count_after}
 use Rattle.commands.proofs.RoundLemmas.{state_in-more}
@@ -75,7 +75,7 @@ judged_first c p vs is count lines = subst (JudgedSo c [] vs) (sym is) (record {
   count = count;
   each = tt;
   fields_are = refl;
-  rest = record { running = refl; to = refl; base = refl; number = refl };
+  rest = record { first = refl; newest = refl; round = refl; latest = refl; earlier = refl; running = refl; to = refl };
 })
 
 count_of : (before : List Revision) (r : Revision) (j : Judgement)
@@ -83,7 +83,7 @@ count_of : (before : List Revision) (r : Revision) (j : Judgement)
 count_of before r (Fit nexts) = sym (length-append before (r ∷ []))
 count_of before r (RefusedFor refusal) = refl
 
-more_with : (c : Script) (rs : List Revision) (r : Revision) (vs ws : Verdicts) (p : Seen) (v : Verdict) → JudgedSo c rs vs p → v ≡ verdict_on c (state_in p) r
+more_with : (c : Script) (rs : List Revision) (r : Revision) (vs ws : Verdicts) (p : Seen) (v : Verdict) → JudgedSo c rs vs p → v ≡ verdict_after c (state_in p).accepted r
     → ws.lines.items ≡ vs.lines.items ++ verdict_line v → ws.accepted ≡ count_after vs.accepted v → JudgedSo c (rs ++ r ∷ []) ws (seen_with p 0 (Judged r v))
 more_with c rs r vs ws p v h verdict line count =
     let s = state_in p in
@@ -97,20 +97,24 @@ more_with c rs r vs ws p v h verdict line count =
           ∙ ap (λ (t : List ℕ). let j : Judging = record { accepted = accepted_after s.accepted r v; text = t } in j) (sym line)
           ∙ ap (λ (q : State). let j : Judging = record { accepted = q.accepted; text = ws.lines.items } in j) (sym now);
       count = count ∙ ap (λ (n : ℕ). count_after n v) h.count
-          ∙ subst (λ (v : Verdict). count_after (length s.accepted) v ≡ length (accepted_after s.accepted r v)) (sym verdict) (count_of s.accepted r (judged c.inputs (inputs_now c s) r))
+          ∙ subst (λ (v : Verdict). count_after (length s.accepted) v ≡ length (accepted_after s.accepted r v)) (sym verdict) (count_of s.accepted r (judged c.inputs (inputs_after c.inputs s.accepted) r))
           ∙ ap (λ (q : State). length q.accepted) (sym now);
       each = AllZip-more IsVerdictOn rs p.journal r _ h.each (v, refl);
       fields_are = ap (λ (q : State). q.fields) now ∙ ap (λ (n : ℕ). n + fields_of r) h.fields_are ∙ ap (λ (n : ℕ). sum (map fields_of rs) + n) (sym (fields_one r)) ∙ sym (fields_all rs (r ∷ []));
-      rest = subst IsFirst (sym now) (record { running = h.rest.running; to = h.rest.to; base = h.rest.base; number = h.rest.number });
+      rest = subst (IsFirst c) (sym now) (record { first = h.rest.first; newest = h.rest.newest; round = h.rest.round; latest = h.rest.latest; earlier = h.rest.earlier; running = h.rest.running; to = h.rest.to });
     }
+
+-- the verdict is that on the inputs of the first script
+verdict_first : (c : Script) (p : Seen) (r : Revision) → (state_in p).first ≡ c → verdict_on (state_in p) r ≡ verdict_after c (state_in p).accepted r
+verdict_first c p r first = ap (λ (d : Script). verdict_after d (state_in p).accepted r) first
 
 pub judged_more : (c : Script) (rs : List Revision) (r : Revision) (vs ws : Verdicts) (p q : Seen) → JudgedSo c rs vs p → JudgesNext p vs r q ws → JudgedSo c (rs ++ r ∷ []) ws q
 judged_more c rs r vs ws p q h next =
     subst (JudgedSo c (rs ++ r ∷ []) ws) (sym next.entry)
-    (more_with c rs r vs ws p next.verdict h (next.verdict_is ∙ ap (λ (c : Script). verdict_on c (state_in p) r) h.script_is) next.line next.count)
+    (more_with c rs r vs ws p next.verdict h (next.verdict_is ∙ verdict_first c p r h.rest.first) next.line next.count)
 
 -- a round has room behind the verdicts
-pub room_of : (c : Script) (rs : List Revision) (vs : Verdicts) (p : Seen) → JudgedSo c rs vs p → IsFew rs → IsChecked p.script → length p.journal + (2 * length p.script.statements + 2) ≤ p.limits.entries
+pub room_of : (c : Script) (rs : List Revision) (vs : Verdicts) (p : Seen) → JudgedSo c rs vs p → IsFew rs → IsChecked c → length p.journal + round_need c ≤ p.limits.entries
 room_of c rs vs p h few checked =
     let long : length p.journal ≡ length rs = AllZip-length IsVerdictOn rs p.journal h.each in
     let entries : p.limits.entries ≡ 4000000 = ap (λ (l : Limits). l.entries) h.limits_are in

@@ -1,5 +1,5 @@
 -- Rounds that one caller runs alone.
-use Rattle.std.proofs.Common.{◌≡◌, ◌==◌, ◌≢◌, ◌+◌, ℕ, Bool, true, false, cond, List, [], ◌∷◌, ◌++◌, length, Result, Ok, Err, IsOk, refl, sym, ap, ◌∙◌, subst, arith, append_assoc, append-nil, length-append, ⊎_elim, inl, inr}
+use Rattle.std.proofs.Common.{◌≡◌, ◌==◌, ◌≢◌, ◌⊎◌, ◌↔◌, ◌+◌, ℕ, Bool, true, false, cond, List, [], ◌∷◌, ◌++◌, length, Option, Some, None, Result, Ok, Err, IsOk, refl, sym, ap, ◌∙◌, subst, arith, append_assoc, append-nil, length-append, ⊎_elim, inl, inr}
 use Rattle.std.specs.List.{All}
 use Rattle.std.proofs.lemmas.Bool.Decides.{nat_tests}
 use Rattle.std.proofs.lemmas.List.Elements.{All-append, All-cons, All-nil}
@@ -12,7 +12,7 @@ use Rattle.transform_nodes.specs.declared.work.Finish.{Finish}
 use Rattle.transform_nodes.specs.declared.work.Finish.TheVariants as finish
 use Rattle.transform_nodes.specs.Nodes.{CanRun, WorkStandsFor, DoneStandsFor}
 use Rattle.point_sets.specs.DataSets.{DataSet}
-use Rattle.round_journal.specs.Journals.{State, Status, Out, Back, Spoiled, after_what, inputs, NoneOut, NoneReady, Over}
+use Rattle.round_journal.specs.Journals.{State, Named, Status, Out, Back, Spoiled, after_what, number, inputs, NoneOut, NoneReady, Over}
 use Rattle.round_journal.specs.Stands.{WorkStands, DoneStands}
 use Rattle.round_journal.specs.Counts.{IsOfStatement}
 use Rattle.round_journal.specs.declared.entry.Entry.{Entry}
@@ -23,16 +23,17 @@ use Rattle.round_journal.proofs.JournalLemmas.{state_of-more}
 use Rattle.round_core.specs.declared.stops.ClaimStop.{ClaimStop}
 use Rattle.round_core.specs.declared.stops.ClaimStop.TheVariants.{NoRound, NoneReady as NothingReady}
 use Rattle.round_core.specs.declared.stops.Given.TheVariants as given
-use Rattle.round_core.specs.Answers.{given_what}
+use Rattle.round_core.specs.Answers.{given_what, cannot_open}
 use Rattle.round_core.specs.Seen.{Seen, state_in, seen_with, opened}
-use Rattle.commands.specs.declared.round.RoundEnd.{RoundEnd}
-use Rattle.commands.specs.declared.round.RoundEnd.TheVariants.{Published, Failed, Dropped}
-use Rattle.commands.specs.Rounds.{IsOpen, IsBackOf, IsDone, GivesNext, IsSameRound, WorksOn, RunsRound, newly_open}
+use Rattle.round_core.specs.declared.stops.OpenStop.{OpenStop}
+use Rattle.round_core.specs.declared.stops.OpenStop.TheVariants as stop
+use Rattle.round_core.specs.declared.stops.Given.{Given}
+use Rattle.commands.specs.Rounds.{IsOpen, IsBackOf, IsDone, GivesNext, IsSameRound, WorksOn, IsNext, RunsRound, RunsWhole, newly_open, end_given, not_opened}
 
 -- ---- one entry more
 
 pub state_in-more : (p : Seen) (n : ℕ) (w : What) → state_in (seen_with p n w) ≡ after_what (state_in p) n w
-state_in-more p n w = state_of-more p.journal (record { by = n; what = w })
+state_in-more p n w = state_of-more p.script p.journal (record { by = n; what = w })
 
 -- a statement was handed out and came back
 abbrev pub back_with : Seen → ℕ → ℕ → What → Seen
@@ -46,54 +47,50 @@ back_cases P i w back a b = ⊎_elim (λ (e : w ≡ Returned i). subst P (sym e)
 
 -- ---- claiming
 
-pub claim_ok : (p : Seen) (r : Result Work ClaimStop) → IsOpen p → ¬ (Over p.script (state_in p))
+pub claim_ok : (p : Seen) (r : Result Work ClaimStop) → IsOpen p → ¬ (Over (state_in p))
     → ((rounds : ℕ) → (r ≡ Err (NoRound rounds)) → (state_in p).running ≡ false)
-    → ((out : ℕ) → (r ≡ Err (NothingReady out)) → NoneReady p.script (state_in p)) → IsOk r
+    → ((out : ℕ) → (r ≡ Err (NothingReady out)) → NoneReady (state_in p)) → IsOk r
 claim_ok p (Ok w) o live a b = refl
 claim_ok p (Err (NoRound rounds)) o live a b = absurd (let closed = a rounds refl in let running = o.running in cc (closed, running))
 claim_ok p (Err (NothingReady out)) o live a b = absurd (live (record { open_still = o.running; none_ready = b out refl; none_out = o.none_out }))
 
-pub can_run : (c : Script) (s : State) (w : Work) → WorkStands c s w → CanRun w
-can_run c s w h = (c, (inputs c w.base s, inputs c w.to s, h.on))
-
-pub done_stands : (c : Script) (s : State) (w : Work) (d : DoneParts) → WorkStands c s w → d.round ≡ w.round → d.base ≡ w.base → d.to ≡ w.to
-    → ((q : Script) (xs ys : List DataSet) → WorkStandsFor q w xs ys → DoneStandsFor q d xs ys) → DoneStands c s d
-done_stands c s w d h round base to stands = record {
-  place = record { running = h.place.running; round_is = round ∙ h.place.round_is; base_is = base ∙ h.place.base_is; to_is = to ∙ h.place.to_is };
-  on = subst (λ (b : ℕ). DoneStandsFor c d (inputs c b s) (inputs c d.to s)) (sym base)
-      (subst (λ (t : ℕ). DoneStandsFor c d (inputs c w.base s) (inputs c t s)) (sym to) (stands c (inputs c w.base s) (inputs c w.to s) h.on));
-}
+pub can_run : (s : State) (w : Work) → WorkStands s w → CanRun w
+can_run s w h = (s.round.script, (inputs w.base s, inputs w.to s, h.on))
 
 pub back_of : (finish : Finish) (i : ℕ) → IsBackOf i (given_what finish i)
 back_of (finish.Right deltas points pages) i = inl refl
 back_of (finish.Fault kept told) i = inl refl
 back_of finish.GaveUp i = inr refl
 
+-- it says why a round can't be opened, but for want of memory
+abbrev pub SaysWhy : Seen → Result ℕ OpenStop → Type 0
+SaysWhy p r = (why : OpenStop) → why ≢ stop.Memory → (r ≡ Err why) ↔ (cannot_open p ≡ Some why)
+
 -- ---- going on
 
 still_none : (i n m j : ℕ) (x : Status) (f : ℕ → Status) → x ≢ Out m → f j ≢ Out m → with_at i x (with_at i (Out n) f) j ≢ Out m
 still_none i n m j x f a b = elim (j == i) as (λ t. cond t x (cond t (Out n) (f j)) ≢ Out m) [ true ↦ a | false ↦ b ]
 
-abbrev IsOpenIn : Script → State → Type 0
-IsOpenIn c s = (s.running ≡ true) × NoneOut c s
+abbrev IsOpenIn : State → Type 0
+IsOpenIn s = (s.running ≡ true) × NoneOut s
 
-open_back : (c : Script) (s : State) (n i : ℕ) (w : What) → IsOpenIn c s → IsBackOf i w → IsOpenIn c (after_what (after_what s n (Claimed i)) n w)
-open_back c s n i w o back = back_cases (λ (w : What). IsOpenIn c (after_what (after_what s n (Claimed i)) n w)) i w back
+open_back : (s : State) (n i : ℕ) (w : What) → IsOpenIn s → IsBackOf i w → IsOpenIn (after_what (after_what s n (Claimed i)) n w)
+open_back s n i w o back = back_cases (λ (w : What). IsOpenIn (after_what (after_what s n (Claimed i)) n w)) i w back
     (o.0, λ j m l. still_none i n m j Back s.status (λ e. cc e) (o.1 j m l))
     (o.0, λ j m l. still_none i n m j Spoiled s.status (λ e. cc e) (o.1 j m l))
 
 pub open_more : (p q : Seen) (n i : ℕ) (w : What) → IsOpen p → IsBackOf i w → q ≡ back_with p n i w → IsOpen q
 open_more p q n i w o back is =
-    let o' = subst (IsOpenIn p.script) (sym (state_in-back p n i w)) (open_back p.script (state_in p) n i w (o.running, o.none_out) back) in
+    let o' = subst IsOpenIn (sym (state_in-back p n i w)) (open_back (state_in p) n i w (o.running, o.none_out) back) in
     subst IsOpen (sym is) (record { running = o'.0; none_out = o'.1 })
 
 same_back : (s : State) (n i : ℕ) (w : What) → IsBackOf i w → IsSameRound s (after_what (after_what s n (Claimed i)) n w)
 same_back s n i w back = back_cases (λ (w : What). IsSameRound s (after_what (after_what s n (Claimed i)) n w)) i w back
-    (record { accepted = refl; base = refl; number = refl; to = refl })
-    (record { accepted = refl; base = refl; number = refl; to = refl })
+    (record { first = refl; newest = refl; accepted = refl; latest = refl; earlier = refl; round = refl; dropped = refl; to = refl })
+    (record { first = refl; newest = refl; accepted = refl; latest = refl; earlier = refl; round = refl; dropped = refl; to = refl })
 
 same_then : (s t u : State) → IsSameRound s t → IsSameRound t u → IsSameRound s u
-same_then s t u a b = record { accepted = b.accepted ∙ a.accepted; base = b.base ∙ a.base; number = b.number ∙ a.number; to = b.to ∙ a.to }
+same_then s t u a b = record { first = b.first ∙ a.first; newest = b.newest ∙ a.newest; accepted = b.accepted ∙ a.accepted; latest = b.latest ∙ a.latest; earlier = b.earlier ∙ a.earlier; round = b.round ∙ a.round; dropped = b.dropped ∙ a.dropped; to = b.to ∙ a.to }
 
 -- the entries of a statement
 abbrev both : ℕ → ℕ → What → List Entry
@@ -129,7 +126,7 @@ works_none n p = record {
   more = ap (λ (j : List Entry). record p { journal = j }) (sym (append-nil p.journal));
   theirs = All-nil (IsTheirs n);
   done = λ e. All-nil (λ x. IsDone x.what);
-  same = record { accepted = refl; base = refl; number = refl; to = refl };
+  same = record { first = refl; newest = refl; accepted = refl; latest = refl; earlier = refl; round = refl; dropped = refl; to = refl };
 }
 
 works_back : (n : ℕ) (start p : Seen) (i : ℕ) (w : What) → WorksOn n start p → IsBackOf i w → WorksOn n start (back_with p n i w)
@@ -158,20 +155,21 @@ longer p q n i w is = subst (λ (r : Seen). (length r.journal ≡ length p.journ
 claimed_to : (p : Seen) (n i : ℕ) → (state_in (seen_with p n (Claimed i))).to ≡ (state_in p).to
 claimed_to p n i = ap (λ (s : State). s.to) (state_in-more p n (Claimed i))
 
-claimed_number : (p : Seen) (n i : ℕ) → (state_in (seen_with p n (Claimed i))).number ≡ (state_in p).number
-claimed_number p n i = ap (λ (s : State). s.number) (state_in-more p n (Claimed i))
+-- with a statement that is handed out and comes back no release is made
+back_number : (p : Seen) (n i : ℕ) → number (state_in (seen_with p n (Claimed i))) ≡ number (state_in p)
+back_number p n i = ap number (state_in-more p n (Claimed i))
 
-pub ends_published : (n : ℕ) (start p q : Seen) (k : ℕ) → WorksOn n start p → GivesNext p n (given.Published k) q → RunsRound start n (Published k) q
+pub ends_published : (n : ℕ) (start p q : Seen) (k : ℕ) → WorksOn n start p → GivesNext p n (given.Published k) q → RunsRound start n (given.Published k) q
 ends_published n start p q k on g = record {
   worked = back_with p n g.statement g.what;
   works = works_back n start p g.statement g.what on g.back;
   what = PublishedTo (state_in (seen_with p n (Claimed g.statement))).to;
   what_is = ap PublishedTo (claimed_to p n g.statement ∙ on.same.to);
-  entry = g.gives.0;
-  number = g.gives.1 ∙ ap (λ (m : ℕ). m + 1) (claimed_number p n g.statement ∙ on.same.number);
+  entry = g.gives;
+  number = g.number k refl ∙ ap (λ (m : ℕ). m + 1) (back_number p n g.statement ∙ ap (λ (l : List Named). length l) on.same.earlier);
 }
 
-pub ends_failed : (n : ℕ) (start p q : Seen) (told : ScriptFault) → WorksOn n start p → GivesNext p n (given.Failed told) q → RunsRound start n (Failed told) q
+pub ends_failed : (n : ℕ) (start p q : Seen) (told : ScriptFault) → WorksOn n start p → GivesNext p n (given.Failed told) q → RunsRound start n (given.Failed told) q
 ends_failed n start p q told on g = record {
   worked = back_with p n g.statement g.what;
   works = works_back n start p g.statement g.what on g.back;
@@ -181,7 +179,7 @@ ends_failed n start p q told on g = record {
   number = tt;
 }
 
-pub ends_dropped : (n : ℕ) (start p q : Seen) → WorksOn n start p → GivesNext p n given.Dropped q → RunsRound start n Dropped q
+pub ends_dropped : (n : ℕ) (start p q : Seen) → WorksOn n start p → GivesNext p n given.Dropped q → RunsRound start n given.Dropped q
 ends_dropped n start p q on g = record {
   worked = back_with p n g.statement g.what;
   works = works_back n start p g.statement g.what on g.back;
@@ -191,36 +189,35 @@ ends_dropped n start p q on g = record {
   number = tt;
 }
 
+-- whatever ended it
+pub ends_so : (n : ℕ) (start p q : Seen) (end : Given) → end ≢ given.Counted → WorksOn n start p → GivesNext p n end q → RunsRound start n end q
+ends_so n start p q given.Counted other on g = absurd (other refl)
+ends_so n start p q (given.Published k) other on g = ends_published n start p q k on g
+ends_so n start p q (given.Failed told) other on g = ends_failed n start p q told on g
+ends_so n start p q given.Dropped other on g = ends_dropped n start p q on g
+
 -- ---- opening
 
--- the script with other statements
-abbrev with_statements : Seen → List CheckedStatement → Seen
-with_statements p ss = record p { script = record p.script { statements = ss } }
-
-opened_with_none : (p : Seen) (n : ℕ) (ss : List CheckedStatement) → length ss ≡ 0
-    → opened (with_statements p ss) n ≡ seen_with (newly_open (with_statements p ss) n) n (PublishedTo (length (state_in p).accepted))
-opened_with_none p n [] e = refl
-opened_with_none p n (s ∷ ss) e = absurd (grind (arith, e))
-
-opened_with_some : (p : Seen) (n : ℕ) (ss : List CheckedStatement) → length ss ≢ 0 → opened (with_statements p ss) n ≡ newly_open (with_statements p ss) n
-opened_with_some p n [] e = absurd (e refl)
-opened_with_some p n (s ∷ ss) e = refl
-
-pub opened_none : (p : Seen) (n : ℕ) → length p.script.statements ≡ 0 → opened p n ≡ seen_with (newly_open p n) n (PublishedTo (length (state_in p).accepted))
-opened_none p n = opened_with_none p n p.script.statements
-
-pub opened_some : (p : Seen) (n : ℕ) → length p.script.statements ≢ 0 → opened p n ≡ newly_open p n
-opened_some p n = opened_with_some p n p.script.statements
+-- the round is open, or its script has no statements and it is published already
+pub opened_cases : (p : Seen) (n : ℕ) → (opened p n ≡ newly_open p n) ⊎ (opened p n ≡ seen_with (newly_open p n) n (PublishedTo (length (state_in p).accepted)))
+opened_cases p n = by_list (state_in p).newest.script.statements refl
+  where
+    by_list : (ss : List CheckedStatement) → (state_in p).newest.script.statements ≡ ss → (opened p n ≡ newly_open p n) ⊎ (opened p n ≡ seen_with (newly_open p n) n (PublishedTo (length (state_in p).accepted)))
+    by_list [] e = inr (rw e refl)
+    by_list (s ∷ ss) e = inl (rw e refl)
 
 pub is_open : (p : Seen) (n : ℕ) → IsOpen (newly_open p n)
 is_open p n =
     let e = state_in-more p n (Opened (length (state_in p).accepted)) in
-    let o = subst (IsOpenIn p.script) (sym e) (refl, λ i m l h. cc h) in
+    let o = subst IsOpenIn (sym e) (refl, λ i m l h. cc h) in
     record { running = o.0; none_out = o.1 }
 
-pub published_at_once : (p q : Seen) (n k : ℕ) → q ≡ seen_with (newly_open p n) n (PublishedTo (length (state_in p).accepted))
-    → k ≡ (state_in q).number → RunsRound (newly_open p n) n (Published k) q
-published_at_once p q n k is number =
+closed_at_once : (p : Seen) (n to : ℕ) → (state_in (seen_with (newly_open p n) n (PublishedTo to))).running ≡ false
+closed_at_once p n to = ap (λ (s : State). s.running) (state_in-more (newly_open p n) n (PublishedTo to))
+
+published_at_once : (p q : Seen) (n k : ℕ) → q ≡ seen_with (newly_open p n) n (PublishedTo (length (state_in p).accepted))
+    → k ≡ number (state_in q) → RunsRound (newly_open p n) n (given.Published k) q
+published_at_once p q n k is same =
     let to = length (state_in p).accepted in
     let open_state = state_in-more p n (Opened to) in
     record {
@@ -229,44 +226,44 @@ published_at_once p q n k is number =
       what = PublishedTo to;
       what_is = ap PublishedTo (sym (ap (λ (s : State). s.to) open_state));
       entry = is;
-      number = number ∙ ap (λ (r : Seen). (state_in r).number) is ∙ ap (λ (s : State). s.number) (state_in-more (newly_open p n) n (PublishedTo to));
+      number = same ∙ ap (λ (r : Seen). number (state_in r)) is ∙ ap number (state_in-more (newly_open p n) n (PublishedTo to))
+          ∙ length-append (state_in (newly_open p n)).earlier ((state_in (newly_open p n)).latest ∷ []);
     }
 
-opened_with_script : (p : Seen) (n : ℕ) (ss : List CheckedStatement) → (opened (with_statements p ss) n).script ≡ (with_statements p ss).script
-opened_with_script p n [] = refl
-opened_with_script p n (s ∷ ss) = refl
+-- where it isn't open it was published at once
+pub at_once : (before q : Seen) (n k : ℕ) → q ≡ opened before n → (state_in q).running ≡ false → k ≡ number (state_in q) → RunsRound (newly_open before n) n (given.Published k) q
+at_once before q n k is closed same = ⊎_elim
+    (λ (o : opened before n ≡ newly_open before n). absurd (let running = (is_open before n).running in let here = ap (λ (r : Seen). (state_in r).running) (is ∙ o) in cc (running, here, closed)))
+    (λ (o : opened before n ≡ seen_with (newly_open before n) n (PublishedTo (length (state_in before).accepted))). published_at_once before q n k (is ∙ o) same)
+    (opened_cases before n)
 
-same_many : (p q : Seen) (n : ℕ) → q ≡ opened p n → length q.script.statements ≡ length p.script.statements
-same_many p q n is = ap (λ (s : Seen). length s.script.statements) is ∙ ap (λ (c : Script). length c.statements) (opened_with_script p n p.script.statements)
+-- else it is newly open
+pub opens : (before q : Seen) (n : ℕ) → q ≡ opened before n → (state_in q).running ≡ true → q ≡ newly_open before n
+opens before q n is running = ⊎_elim
+    (λ (o : opened before n ≡ newly_open before n). is ∙ o)
+    (λ (o : opened before n ≡ seen_with (newly_open before n) n (PublishedTo (length (state_in before).accepted))). absurd (let closed = closed_at_once before n (length (state_in before).accepted) in let here = ap (λ (r : Seen). (state_in r).running) (is ∙ o) in cc (closed, here, running)))
+    (opened_cases before n)
 
--- where there are no statements the round is published at once
-pub at_once : (q : Seen) (n k : ℕ) → length q.script.statements ≡ 0 → k ≡ (state_in q).number → (before : Seen) → q ≡ opened before n → RunsRound (newly_open before n) n (Published k) q
-at_once q n k none number before is = published_at_once before q n k (is ∙ opened_none before n (sym (same_many before q n is) ∙ none)) number
+pub opens_round : (before q : Seen) (n : ℕ) → q ≡ opened before n → (state_in q).running ≡ true → IsOpen q
+opens_round before q n is running = subst IsOpen (sym (opens before q n is running)) (is_open before n)
 
--- else it is open
-pub opens : (before q : Seen) (n : ℕ) → length q.script.statements ≢ 0 → q ≡ opened before n → q ≡ newly_open before n
-opens before q n some is = is ∙ opened_some before n (λ none. some (same_many before q n is ∙ none))
+pub ran_on : (q r : Seen) (n : ℕ) (e : Given) → (state_in q).running ≡ true → RunsRound q n e r → (before : Seen) → q ≡ opened before n → RunsRound (newly_open before n) n e r
+ran_on q r n e running ran before is = subst (λ (s : Seen). RunsRound s n e r) (opens before q n is running) ran
 
-pub opens_round : (before q : Seen) (n : ℕ) → length q.script.statements ≢ 0 → q ≡ opened before n → IsOpen q
-opens_round before q n some is = subst IsOpen (sym (opens before q n some is)) (is_open before n)
+-- a round that was run doesn't end as one that goes on
+pub ran_ended : (p q : Seen) (n : ℕ) (e : Given) → RunsRound p n e q → e ≢ given.Counted
+ran_ended p q n e ran same = absurd (subst (λ (g : Given). IsNext g (number (state_in p))) same ran.number)
 
-pub ran_on : (q r : Seen) (n : ℕ) (e : RoundEnd) → length q.script.statements ≢ 0 → RunsRound q n e r → (before : Seen) → q ≡ opened before n → RunsRound (newly_open before n) n e r
-ran_on q r n e some ran before is = subst (λ (s : Seen). RunsRound s n e r) (opens before q n some is) ran
+-- what was opened and run
+pub ran_whole : (old new : Seen) (n : ℕ) (e : Given) → cannot_open old ≡ None → RunsRound (newly_open old n) n e new → RunsWhole old n (end_given e) new
+ran_whole old new n given.Counted could ran = absurd (ran_ended (newly_open old n) new n given.Counted ran refl)
+ran_whole old new n (given.Published k) could ran = (could, ran)
+ran_whole old new n (given.Failed fault) could ran = (could, ran)
+ran_whole old new n given.Dropped could ran = inr (could, ran)
 
--- ---- the test whether there are statements
-
-is_zero : (n : ℕ) (b : Bool) → b ≡ (n == 0) → b ≡ true → n ≡ 0
-is_zero n b test holds = grind (arith, nat_tests)
-
-is_not_zero : (n : ℕ) (b : Bool) → b ≡ (n == 0) → b ≡ false → n ≢ 0
-is_not_zero n b test fails none = absurd (grind (arith, nat_tests))
-
-module _ (q : Seen) (c : Script) (l : List CheckedStatement) (b : Bool) (script : c ≡ q.script) (is : l ≡ c.statements) (test : b ≡ (length l == 0)) where
-  same_length : length l ≡ length q.script.statements
-  same_length = ap length (is ∙ ap (λ (s : Script). s.statements) script)
-
-  pub none_of : b ≡ true → length q.script.statements ≡ 0
-  none_of holds = sym same_length ∙ is_zero (length l) b test holds
-
-  pub some_of : b ≡ false → length q.script.statements ≢ 0
-  some_of fails none = is_not_zero (length l) b test fails (same_length ∙ none)
+-- what was not opened
+pub unopened : (old new : Seen) (n : ℕ) (r : Result ℕ OpenStop) (why : OpenStop) → new ≡ old → SaysWhy old r → r ≡ Err why → RunsWhole old n (not_opened why) new
+unopened old new n r (stop.Running k) same says is = inl same
+unopened old new n r (stop.NothingNew k) same says is = (same, (says (stop.NothingNew k) (λ m. cc m)).0 is)
+unopened old new n r (stop.Full full) same says is = (same, (says (stop.Full full) (λ m. cc m)).0 is)
+unopened old new n r stop.Memory same says is = inl same

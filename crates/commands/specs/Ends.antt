@@ -6,9 +6,9 @@ use Rattle.outside.specs.Sinks.{SinkView, Took}
 use Rattle.commands.specs.declared.stop.Ending.{Ending}
 use Rattle.commands.specs.declared.stop.Stop.{Stop}
 use Rattle.commands.specs.declared.stop.Stop.TheVariants.{Ended, Memory}
-use Rattle.commands.specs.declared.reading.TheConstants.{SCRIPT_LIMIT}
 use Rattle.commands.specs.Stages.{Answer, Stage}
 use Rattle.commands.specs.Lines.{unread}
+use Rattle.commands.specs.Words.{FileLimit}
 
 -- the answer that an end gives
 abbrev pub told_by : Ending → Answer
@@ -29,31 +29,39 @@ abbrev pub IsRefusal : Stop → Type 0
 IsRefusal (Ended e) = (2 < e.status) × (e.status < 5)
 IsRefusal Memory = Unit {0}
 
--- a fault of the shelf at one of these names
-pub record Fault (names : List (List ℕ)) (old new : ShelfView) : Type 0 where
+-- a fault of the shelf at one of these files
+pub record Fault (files : List FileLimit) (old new : ShelfView) : Type 0 where
   pub rose : Rose old.faults new.faults
-  pub named : Contains names new.last
+  pub file : FileLimit
+  pub listed : Contains files file
+  pub named : file.name ≡ new.last
 
--- status 2 has a cause: a fault at one of the names, or a file that is longer than the least of the limits
-abbrev pub HasCause : List (List ℕ) → ShelfView → ShelfView → ℕ → Type 0
-HasCause names old new status = status ≡ 2 → Fault names old new ⊎ (SCRIPT_LIMIT < new.kept)
+-- one of these files is longer than its limit
+pub record IsTooLong (files : List FileLimit) (new : ShelfView) : Type 0 where
+  pub file : FileLimit
+  pub listed : Contains files file
+  pub long : file.limit < new.kept
+
+-- status 2 has a cause: a fault at one of the files, or one that is longer than its limit
+abbrev pub HasCause : List FileLimit → ShelfView → ShelfView → ℕ → Type 0
+HasCause files old new status = status ≡ 2 → Fault files old new ⊎ IsTooLong files new
 
 -- a status before the run: neither a run's nor a sink's
 abbrev pub IsEarlyStatus : ℕ → Type 0
 IsEarlyStatus status = (0 < status) × (status < 5)
 
 -- the end of a stage: the stage's own answer or the line of a fault, with a status before the run
-pub record EndsWith {B : Type 0} (names : List (List ℕ)) (old new : ShelfView) (end : Answer) (stage : Files → Stage B) : Type 0 where
+pub record EndsWith {B : Type 0} (names : List FileLimit) (old new : ShelfView) (end : Answer) (stage : Files → Stage B) : Type 0 where
   pub meant : Told old.files (λ files. (stage files ≡ Err end) ⊎ (Fault names old new × (end ≡ unread new.last)))
   pub cause : HasCause names old new end.status
   pub early : IsEarlyStatus end.status
 
-abbrev pub Ends : {B : Type 0} → List (List ℕ) → ShelfView → ShelfView → Stop → (Files → Stage B) → Type 0
+abbrev pub Ends : {B : Type 0} → List FileLimit → ShelfView → ShelfView → Stop → (Files → Stage B) → Type 0
 Ends names old new (Ended e) stage = EndsWith names old new (told_by e) stage
 Ends names old new Memory stage = Unit {0}
 
 -- a stage of the code: Ok with the stage's value, or an end with its answer or a fault's, or want of memory
-pub record Stands {A B : Type 0} (view : A → B) (names : List (List ℕ)) (old new : ShelfView) (result : Result A Stop) (stage : Files → Stage B) : Type 0 where
+pub record Stands {A B : Type 0} (view : A → B) (names : List FileLimit) (old new : ShelfView) (result : Result A Stop) (stage : Files → Stage B) : Type 0 where
   pub files : new.files ≡ old.files
   pub later : old.faults ≤ new.faults
   pub value : IfOk result (λ a. Told old.files (λ files. stage files ≡ Ok (view a)))

@@ -55,7 +55,7 @@ failed_line c prefix (Total points) = total_points prefix points
 
 -- the release of this number on the accepted revisions, or the line of the round that failed
 abbrev pub answer_on : Script → ℕ → List Revision → Option ScriptWrong → Answer
-answer_on c number accepted None = record { status = 0; text = release number (length accepted) (pages_on c (inputs_after c.inputs accepted)) }
+answer_on c number accepted None = record { status = 0; text = release number (length accepted) 0 (pages_on c (inputs_after c.inputs accepted)) }
 answer_on c number accepted (Some wrong) = record { status = 5; text = failed_line c (length accepted) wrong }
 
 abbrev pub round_of : Script → ℕ → List Revision → Answer

@@ -1,5 +1,6 @@
 -- The words of the program (docs/formats.md, "Commands").
 use Rattle.std.specs.Prelude.{◌==◌, ◌&&◌, ℕ, Bool, false, not, List, [], ◌∷◌, if◌then◌else◌, Ok, Err, codes, chars, bytes_eq}
+use Rattle.commands.specs.declared.reading.TheConstants.{SCRIPT_LIMIT, STRUCTURES_LIMIT, FEED_LIMIT}
 use Rattle.commands.specs.Stages.{Stage}
 use Rattle.commands.specs.Lines.{not_built}
 
@@ -22,11 +23,19 @@ command_of (word ∷ script ∷ structures ∷ feed ∷ []) =
     else Err not_built
 command_of other = Err not_built
 
--- the files that an accepted command names
-abbrev pub named : EvalNames → List (List ℕ)
-named eval = eval.script ∷ eval.structures ∷ eval.feed ∷ []
+-- a file that a command reads, and the most bytes that it may have
+pub record FileLimit : Type 0 where
+  pub name : List ℕ
+  pub limit : ℕ
+
+abbrev pub within : List ℕ → ℕ → FileLimit
+within name limit = record { name = name; limit = limit }
+
+-- the files that an accepted command names, in the order in which they are read
+abbrev pub named : EvalNames → List FileLimit
+named eval = within eval.script SCRIPT_LIMIT ∷ within eval.structures STRUCTURES_LIMIT ∷ within eval.feed FEED_LIMIT ∷ []
 
 -- the files that the words name, where a command accepts them
-abbrev pub files_named : Stage EvalNames → List (List ℕ)
+abbrev pub files_named : Stage EvalNames → List FileLimit
 files_named (Ok eval) = named eval
 files_named (Err end) = []

@@ -1,6 +1,9 @@
 // The top call.
-ghost use Rattle.std.specs.Prelude.{◌≡◌, ◌≢◌, ◌⊎◌, map, string_bytes, IsErr, IsErrAnd, IfOk, IfSome, IsSome, None};
+ghost use Rattle.std.specs.Prelude.{◌≡◌, ◌≢◌, ◌⊎◌, ℕ, map, string_bytes, IsErr, IsErrAnd, IfOk, IfSome, IsSome, None};
 ghost use Rattle.std.specs.Thread.{IsSync};
+ghost use Rattle.std.specs.declared.vec.Vec.{Vec};
+ghost use Rattle.std.specs.declared.alloc.Global.{Global};
+ghost use Rattle.round_journal.specs.Journals.{Legal};
 ghost use Rattle.outside.specs.Counts.{Rose};
 ghost use Rattle.outside.specs.Shelves.{Told};
 ghost use Rattle.commands.specs.Eval as meant;
@@ -8,7 +11,7 @@ ghost use Rattle.commands.specs.Eval.{behind};
 ghost use Rattle.commands.specs.Ends.{Fault, Gives, HasCause, Stands, Did, EndedSo, IsEarly};
 ghost use Rattle.commands.specs.Lines.{not_built, unread};
 ghost use Rattle.commands.specs.Output.{output, ready, IsProductionOf};
-ghost use Rattle.commands.specs.Runs.{LIMITS, IsFew, IsRunOf, WritesEnd};
+ghost use Rattle.commands.specs.Runs.{IsFew, IsRunOf, IsSomeRun, IsAtRest, HasFault, WritesEnd};
 ghost use Rattle.commands.specs.Stages.{Answer};
 ghost use Rattle.commands.specs.Views.{run_of, status_of};
 ghost use Rattle.commands.specs.Words.{command_of, files_named};
@@ -54,6 +57,7 @@ fn gathered<S: Shelf>(alloc: Global, words: &Vec<String>, shelf: &mut S) -> Resu
         (S.view shelf.old) (S.view shelf.new) result (ready (map string_bytes words.now.items)) }
     ensures few { IfOk result (λ input. IsFew input.revisions.items) }
     ensures words { IsErr (command_of (map string_bytes words.now.items)) → IsErrAnd result (λ stop. Gives stop not_built) }
+    ensures untouched { IsErr (command_of (map string_bytes words.now.items)) → S.view shelf.new ≡ S.view shelf.old }
 {
     let eval = command(alloc, words)?;
     let bytes = read_files(alloc, shelf, &eval)?;
@@ -76,6 +80,8 @@ fn write_run<K: Sink>(out: &mut K, ran: &Ran) -> u8
     ensures did { (meant : Answer) → WritesEnd ran.now.production ran.now.end meant → Did (K.view out.old) (K.view out.new) (behind ran.now.lines.items meant) result }
     ensures write { result ≡ 6 → Rose (K.view out.old).faults (K.view out.new).faults }
     ensures cause { result ≢ 2 }
+    ensures released { result ≡ 0 → ran.now.end ≡ End.Released }
+    ensures failed { result ≡ 5 → (line : Vec ℕ Global) × (ran.now.end ≡ End.Failed line) }
 {
     let written = put(out, Ok(()), ran.lines.as_slice());
     match &ran.end {
@@ -92,6 +98,9 @@ fn run<R: Threads + Sync, K: Sink>(rt: &R, alloc: Global, out: &mut K, input: Ev
     ensures write { result.status ≡ 6 → Rose (K.view out.old).faults (K.view out.new).faults }
     ensures cause { result.status ≢ 2 }
     ensures production { IfSome result.production (IsRunOf input.script input.revisions.items) }
+    ensures legal { IfSome result.production (λ p. Legal p.script p.journal) }
+    ensures released { result.status ≡ 0 → IfSome result.production IsAtRest }
+    ensures failed { result.status ≡ 5 → IfSome result.production HasFault }
     ensures handed_back { result.status ≢ 7 → IsSome result.production }
 {
     match eval(rt, alloc, input.script, input.revisions) {
@@ -153,9 +162,16 @@ pub fn run_vtlprod<R: AllocGlobal + Threads + Wait + Sync, S: Shelf, K: Sink, G:
     ensures write { result.status ≡ 6 → Rose (K.view out.old).faults (K.view out.new).faults }
     ensures words { IsErr (command_of (map string_bytes words.now.items)) →
         Did (K.view out.old) (K.view out.new) not_built result.status }
+    ensures untouched { IsErr (command_of (map string_bytes words.now.items)) → S.view shelf.new ≡ S.view shelf.old }
 
-    // Of the production: its limits, and where the shelf tells its bytes, its script and its journal.
-    ensures limits { IfSome result.production (λ p. p.limits ≡ LIMITS) }
+    // Of the production that is handed back: it ran some script over some revisions, within the program's limits, and no
+    // statement of its round was given up; its journal is legal. At status 0 its latest release stands on all accepted
+    // revisions, on which the script is in bounds, and at status 5 the script has a fault on them. Where the shelf tells
+    // its bytes, the script and the revisions are those of the files.
+    ensures run { IfSome result.production IsSomeRun }
+    ensures legal { IfSome result.production (λ p. Legal p.script p.journal) }
+    ensures released { result.status ≡ 0 → IfSome result.production IsAtRest }
+    ensures failed { result.status ≡ 5 → IfSome result.production HasFault }
     ensures production { Told (S.view shelf.old).files (λ files.
         IfSome result.production (IsProductionOf (ready (map string_bytes words.now.items) files))) }
     ensures handed_back { (result.status ≡ 0) ⊎ (result.status ≡ 5) → IsSome result.production }

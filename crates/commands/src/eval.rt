@@ -1,14 +1,15 @@
 // The command `eval`: its revisions, its round and its release.
-ghost use Rattle.std.specs.Prelude.{◌≡◌, [], None, IfOk, OnOk};
+ghost use Rattle.std.specs.Prelude.{◌≡◌, ◌≢◌, [], None, IfOk, OnOk};
 ghost use Rattle.std.specs.Thread.{IsSync};
 ghost use Rattle.round_core.specs.Answers.{full_for};
+ghost use Rattle.round_core.specs.declared.limits.Full.{Full};
 ghost use Rattle.commands.specs.Runs.{LIMITS, IsFew, JudgedSo, JudgesNext, RanSo, EndsSo, count_after};
 
 use crate::lines::{fault_line, verdict_line};
 use crate::round::{RoundEnd, run_whole};
 use checked_trees::CheckedScript;
 use point_sets::Revision;
-use round_core::{ENTRY_LIMIT, FIELD_LIMIT, Limits, Production, SubmitStop};
+use round_core::{ENTRY_LIMIT, FIELD_LIMIT, Limits, Production, SCRIPT_LIMIT, SubmitStop};
 use round_journal::Verdict;
 use std::alloc::{AllocError, Global};
 use std::marker::Sync;
@@ -43,6 +44,7 @@ fn new_production(alloc: Global, script: CheckedScript) -> Result<Production, Al
     let limits = Limits {
         entries: ENTRY_LIMIT,
         fields: FIELD_LIMIT,
+        scripts: SCRIPT_LIMIT,
     };
     Production::new(alloc, script, limits)
 }
@@ -97,23 +99,24 @@ fn judge_revisions(
     Ok(verdicts)
 }
 
-// What a round comes to. A dropped one is want of memory.
+// What a round comes to, of which the entries fit.
 fn end_of_round(
     alloc: Global,
     production: &Production,
     accepted: u64,
-    round: Option<RoundEnd>,
+    round: RoundEnd,
 ) -> Result<End, AllocError>
+    requires { (full : Full) → round ≢ RoundEnd.Full full }
     ensures { IfOk result (EndsSo production.now.script accepted round) }
 {
     match round {
-        None => Ok(End::Released),
-        Some(RoundEnd::Published(_)) => Ok(End::Released),
-        Some(RoundEnd::Failed(fault)) => {
+        RoundEnd::NothingNew(_) | RoundEnd::Published(_) => Ok(End::Released),
+        RoundEnd::Failed(fault) => {
             let line = fault_line(alloc, accepted, production.script(), &fault)?;
             Ok(End::Failed(line))
         }
-        Some(RoundEnd::Dropped) => Err(AllocError),
+        RoundEnd::Memory => Err(AllocError),
+        RoundEnd::Full(_) => unreachable!(),
     }
 }
 
@@ -135,7 +138,7 @@ pub fn eval<R: Threads + Sync>(
     let _ = production.script().statements();
     // Called for its clause: the journal is legal.
     let _ = production.journal();
-    let round = run_whole(rt, alloc, &mut production, 0)?;
+    let round = run_whole(rt, alloc, &mut production, 0);
     // Again, after the round.
     let _ = production.journal();
     let end = end_of_round(alloc, &production, verdicts.accepted, round)?;

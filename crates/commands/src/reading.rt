@@ -4,7 +4,7 @@ ghost use Rattle.commands.specs.Ends.{Gives, Stands};
 ghost use Rattle.commands.specs.Lines.{line, unread, too_long};
 ghost use Rattle.commands.specs.Reading.{file, files_of};
 ghost use Rattle.commands.specs.Views.{as_bytes, eval_bytes, eval_names};
-ghost use Rattle.commands.specs.Words.{named};
+ghost use Rattle.commands.specs.Words.{named, within};
 
 use crate::stop::{Ending, Stop};
 use crate::words::EvalFiles;
@@ -45,15 +45,14 @@ fn too_long_line(alloc: Global, name: &Word, limit: u64) -> Stop
     }
 }
 
-/// Reads one file.
+/// Reads one file, of at most so many bytes.
 pub fn read_file<S: Shelf>(
     alloc: Global,
     shelf: &mut S,
     name: &Word,
     limit: u64,
 ) -> Result<Vec<u8>, Stop>
-    requires { SCRIPT_LIMIT ≤ limit }
-    ensures stands { Stands as_bytes (name.now ∷ []) (S.view shelf.old) (S.view shelf.new) result
+    ensures stands { Stands as_bytes (within name.now limit ∷ []) (S.view shelf.old) (S.view shelf.new) result
         (λ files. file files name.now limit) }
     ensures within { IfOk result (λ bytes. length bytes.items ≤ limit) }
 {

@@ -1,24 +1,30 @@
 // Rounds that one caller runs alone.
-ghost use Rattle.std.specs.Prelude.{◌≡◌, ◌≤◌, ◌<◌, ◌+◌, ◌*◌, true, false, length, IfOk};
+ghost use Rattle.std.specs.Prelude.{◌≡◌, ◌≢◌, ◌<◌, ℕ, false};
 ghost use Rattle.std.specs.Thread.{IsSync};
 ghost use Rattle.round_core.specs.Seen.{Seen, state_in, opened};
-ghost use Rattle.commands.specs.Rounds.{IsOpen, IsOpened, GivesNext, RunsRound, RunsWhole, newly_open};
+ghost use Rattle.commands.specs.Rounds.{IsOpen, IsOpened, GivesNext, RunsRound, RunsWhole, newly_open, end_given, not_opened};
 
 use data_model::steps::Steps;
-use round_core::{Given, OpenStop, Production};
+use round_core::{Full, Given, OpenStop, Production};
 use round_journal::ScriptFault;
-use std::alloc::{AllocError, Global};
+use std::alloc::Global;
 use std::marker::{Brand, Sync};
 use std::sync::ledger::{Blank, Ledger};
 use std::thread::Threads;
 
-/// How a round ended: with the release of this number, with the script's fault, or without either, since memory was
-/// wanting for a statement of it.
+/// How a round ended, or why none was opened.
 #[derive(Debug, Drop)]
 pub enum RoundEnd {
+    /// There is nothing to be worked out beside what the last round had, with so many accepted revisions.
+    NothingNew(u64),
+    /// Its entries don't fit any more.
+    Full(Full),
+    /// With the release of this number.
     Published(u64),
+    /// With the script's fault.
     Failed(ScriptFault),
-    Dropped,
+    /// Memory was wanting for opening it, or for one of its statements: then it was dropped.
+    Memory,
 }
 
 // Claims the next statement, runs it and gives it back.
@@ -49,7 +55,7 @@ pub fn run_round<R: Threads + Sync, L: Ledger>(
     production: &mut Production,
     by: u64,
     steps: &mut Steps<L>,
-) -> RoundEnd
+) -> Given
     requires open_round { IsOpen production.old }
     requires sync { IsSync R.row }
     ensures { RunsRound production.old by result production.new }
@@ -57,9 +63,7 @@ pub fn run_round<R: Threads + Sync, L: Ledger>(
     'works: loop {
         match run_next(rt, alloc, production, by, steps) {
             Given::Counted => {}
-            Given::Published(number) => return RoundEnd::Published(number),
-            Given::Failed(fault) => return RoundEnd::Failed(fault),
-            Given::Dropped => return RoundEnd::Dropped,
+            end => return end,
         }
     }
 }
@@ -71,7 +75,7 @@ fn run_uncounted<R: Threads + Sync, L: Ledger>(
     production: &mut Production,
     by: u64,
     blank: Blank,
-) -> RoundEnd
+) -> Given
     requires open_round { IsOpen production.old }
     requires sync { IsSync R.row }
     requires name { blank.name ≡ L.name }
@@ -82,41 +86,62 @@ fn run_uncounted<R: Threads + Sync, L: Ledger>(
     run_round(rt, alloc, production, by, &mut steps)
 }
 
-// Runs the round that was opened. In a script without statements it is published already.
+// Runs the round that was opened. Where its script has no statements it is published already.
 fn run_opened<R: Threads + Sync>(
     rt: &R,
     alloc: Global,
     production: &mut Production,
     by: u64,
-) -> RoundEnd
+) -> Given
     requires open_round { IsOpened production.old by }
     requires sync { IsSync R.row }
     ensures { (before : Seen) → production.old ≡ opened before by → RunsRound (newly_open before by) by result production.new }
 {
-    if production.script().statements().is_empty() {
-        return RoundEnd::Published(production.latest().number);
+    if !production.is_open() {
+        return Given::Published(production.latest().number);
     }
     run_uncounted::<R, Brand>(rt, alloc, production, by, Blank::new(1))
 }
 
-/// Opens a round over all accepted revisions, and runs it to its end. `None`: no revision was accepted.
+// The end of a round that was run.
+fn end_given(given: Given) -> RoundEnd
+    requires { given ≢ Given.Counted }
+    ensures { result ≡ end_given given }
+{
+    match given {
+        Given::Counted => unreachable!(),
+        Given::Published(number) => RoundEnd::Published(number),
+        Given::Failed(fault) => RoundEnd::Failed(fault),
+        Given::Dropped => RoundEnd::Memory,
+    }
+}
+
+// Why no round was opened.
+fn not_opened(stop: OpenStop) -> RoundEnd
+    requires { (rounds : ℕ) → stop ≢ OpenStop.Running rounds }
+    ensures { result ≡ not_opened stop }
+{
+    match stop {
+        OpenStop::NothingNew(accepted) => RoundEnd::NothingNew(accepted),
+        OpenStop::Full(full) => RoundEnd::Full(full),
+        OpenStop::Memory => RoundEnd::Memory,
+        OpenStop::Running(_) => unreachable!(),
+    }
+}
+
+/// Opens a round of the newest script over all accepted revisions, and runs it to its end.
 pub fn run_whole<R: Threads + Sync>(
     rt: &R,
     alloc: Global,
     production: &mut Production,
     by: u64,
-) -> Result<Option<RoundEnd>, AllocError>
+) -> RoundEnd
     requires rests { (state_in production.old).running ≡ false }
-    requires first { (state_in production.old).to ≡ 0 }
-    requires room { length production.old.journal + (2 * length production.old.script.statements + 2) ≤ production.old.limits.entries }
     requires sync { IsSync R.row }
-    ensures { IfOk result (λ end. RunsWhole production.old by end production.new) }
+    ensures { RunsWhole production.old by result production.new }
 {
     match production.open_round(by) {
-        Ok(_) => Ok(Some(run_opened(rt, alloc, production, by))),
-        Err(OpenStop::NothingNew(_)) => Ok(None),
-        Err(OpenStop::Memory) => Err(AllocError),
-        Err(OpenStop::Running(_)) => unreachable!(),
-        Err(OpenStop::Full(_)) => unreachable!(),
+        Ok(_) => end_given(run_opened(rt, alloc, production, by)),
+        Err(stop) => not_opened(stop),
     }
 }

@@ -13,8 +13,8 @@ returns-in-Released-clause-did g c = λ meant writes.
     let mid = g.K.Sink.view c.put-written.new.out in
     let r = c.latest.result.now in
     let first = subst (λ (t : List ℕ). Extends old mid (Ok tt) c.put-written.result t) c.as_slice.ensures.value c.put-written.ensures in
-    let same = (subst (λ (e : End). WritesEnd c.args.ran.now.production e meant) c.in-Released.is writes) r c.latest.ensures in
-    did_behind old mid (g.K.Sink.view c.write_to.new.out) c.put-written.result c.write_to.result c.args.ran.now.lines.items (release r.number r.prefix r.pages) 0 c.status_after.result meant
+    let same = (subst (λ (e : End). WritesEnd c.args.ran.now.production e meant) c.in-Released.is writes) r c.latest.ensures.release in
+    did_behind old mid (g.K.Sink.view c.write_to.new.out) c.put-written.result c.write_to.result c.args.ran.now.lines.items (release r.number r.prefix r.script r.pages) 0 c.status_after.result meant
     first c.write_to.ensures c.status_after.ensures same
 
 pub returns-in-Released-clause-write : goal.returns-in-Released-clause-write
@@ -23,7 +23,7 @@ returns-in-Released-clause-write g c = λ six.
     let mid = g.K.Sink.view c.put-written.new.out in
     let new = g.K.Sink.view c.write_to.new.out in
     let r = c.latest.result.now in
-    let text = release r.number r.prefix r.pages in
+    let text = release r.number r.prefix r.script r.pages in
     rose_at_6 old new c.write_to.result _ 0 (lit< tt)
     (wrote_behind old mid new c.put-written.result c.write_to.result c.as_slice.result.now text c.put-written.ensures c.write_to.ensures)
     (sym c.status_after.ensures ∙ six)

@@ -1,5 +1,5 @@
 use Rattle.std.proofs.Common.{ap, arith}
-use Rattle.commands.proofs.RoundLemmas.{open_more, works_more, longer, ends_published, ends_failed, ends_dropped}
+use Rattle.commands.proofs.RoundLemmas.{open_more, works_more, longer, ends_so}
 use Rattle.commands.proofs.round.run_round.Goals as goal
 
 pub works-preserved : goal.works-preserved
@@ -20,11 +20,5 @@ works-smaller g c =
     let fits = next.fits in
     omega (arith, long, limits, fits)
 
-pub returns-in-Published : goal.returns-in-Published
-returns-in-Published g c = ends_published c.args.by c.args.production.now c.works.production c.run_next.new.production c.in-Published.number c.works.invariant.works c.in-Published.ensures
-
-pub returns-in-Failed : goal.returns-in-Failed
-returns-in-Failed g c = ends_failed c.args.by c.args.production.now c.works.production c.run_next.new.production c.in-Failed.fault c.works.invariant.works c.in-Failed.ensures
-
-pub returns-in-Dropped : goal.returns-in-Dropped
-returns-in-Dropped g c = ends_dropped c.args.by c.args.production.now c.works.production c.run_next.new.production c.works.invariant.works c.in-Dropped.ensures
+pub returns-in_default : goal.returns-in_default
+returns-in_default g c = ends_so c.args.by c.args.production.now c.works.production c.run_next.new.production c.run_next.result c.in_default.not-Counted c.works.invariant.works c.run_next.ensures

@@ -1,30 +1,28 @@
-use Rattle.std.proofs.Common.{Err, ap, ◌∙◌}
-use Rattle.commands.proofs.OpenLemmas.{not_running, not_full, none_accepted, some_accepted}
+use Rattle.std.proofs.Common.{◌≡◌, Err, ap, sym, subst, ◌∙◌}
+use Rattle.commands.specs.declared.round.RoundEnd.{RoundEnd}
+use Rattle.commands.specs.Rounds.{RunsWhole}
+use Rattle.commands.proofs.OpenLemmas.{not_running, could_open}
+use Rattle.commands.proofs.RoundLemmas.{ran_ended, ran_whole, unopened}
 use Rattle.commands.proofs.round.run_whole.Goals as goal
 
 pub run_opened-requires-clause-open_round : goal.run_opened-requires-clause-open_round
 run_opened-requires-clause-open_round g c κs within = (c.args.production.now, c.in-Ok.ensures.opened.1)
 
-pub unreachable-requires : goal.unreachable-requires
-unreachable-requires g c =
-    not_running c.args.production.now c.open_round.result c.in-Err-Running.field-0-0 (record { running = c.requires.rests; first = c.requires.first; room = c.requires.room })
-    c.open_round.ensures.refused (c.in-Err-Running.is ∙ ap Err c.in-Err-Running.field-0-is)
-
-pub unreachable-requires-in-Err-Full : goal.unreachable-requires-in-Err-Full
-unreachable-requires-in-Err-Full g c =
-    not_full c.args.production.now c.open_round.result c.in-Err-Full.field-0-0 (record { running = c.requires.rests; first = c.requires.first; room = c.requires.room })
-    c.open_round.ensures.refused (c.in-Err-Full.is ∙ ap Err c.in-Err-Full.field-0-is)
+pub end_given-requires : goal.end_given-requires
+end_given-requires g c = ran_ended _ c.run_opened.new.production c.args.by c.run_opened.result (c.run_opened.ensures c.args.production.now c.in-Ok.ensures.opened.1)
 
 pub returns-in-Ok : goal.returns-in-Ok
-returns-in-Ok g c = (
-  some_accepted c.args.production.now c.open_round.result _ (record { running = c.requires.rests; first = c.requires.first; room = c.requires.room })
-      c.open_round.ensures.refused c.in-Ok.is,
-  c.run_opened.ensures c.args.production.now c.in-Ok.ensures.opened.1,
-)
+returns-in-Ok g c =
+    let old = c.args.production.now in
+    let ran = c.run_opened.ensures old c.in-Ok.ensures.opened.1 in
+    subst (λ (e : RoundEnd). RunsWhole old c.args.by e c.run_opened.new.production) (sym c.end_given.ensures)
+    (ran_whole old c.run_opened.new.production c.args.by c.run_opened.result (could_open old c.open_round.result _ c.open_round.ensures.refused c.in-Ok.is) ran)
 
-pub returns-in-Err-NothingNew : goal.returns-in-Err-NothingNew
-returns-in-Err-NothingNew g c = (
-  c.in-Err-NothingNew.ensures.err,
-  none_accepted c.args.production.now c.open_round.result c.in-Err-NothingNew.field-0-0 (record { running = c.requires.rests; first = c.requires.first; room = c.requires.room })
-      c.open_round.ensures.refused (c.in-Err-NothingNew.is ∙ ap Err c.in-Err-NothingNew.field-0-is),
-)
+pub not_opened-requires : goal.not_opened-requires
+not_opened-requires g c rounds is = not_running c.args.production.now c.open_round.result rounds c.requires.rests c.open_round.ensures.refused (c.in-Err.is ∙ ap Err is)
+
+pub returns-in-Err : goal.returns-in-Err
+returns-in-Err g c =
+    let old = c.args.production.now in
+    subst (λ (e : RoundEnd). RunsWhole old c.args.by e c.open_round.new.self) (sym c.not_opened.ensures)
+    (unopened old c.open_round.new.self c.args.by c.open_round.result c.in-Err.stop c.in-Err.ensures.err c.open_round.ensures.refused c.in-Err.is)
