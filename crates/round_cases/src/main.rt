@@ -1,45 +1,59 @@
 //! Cases of rounds: calls of a production, one after the other, and its releases.
 //!
-//! A case is a script, the most entries and fields of the journal, and steps; or, after the word `structures`, those of a
-//! structure file for a script without statements. The steps are:
+//! A case is a script, the most entries and fields of the journal and the most scripts, and steps; or, after the word
+//! `structures`, those of a structure file for a script without statements. The steps are:
 //!
 //! - `["judge", BY, SET, ROWS, ..]`, a revision with a SET and ROWS for each of its parts. The rows stand between blanks:
 //!   after `+` one that puts, after `-` one that removes; with a number for ROWS the part puts so many points;
 //! - `["open", BY]`;
 //! - `["turn", BY]`: a caller claims a statement, works it out and gives it back. With SET and ROWS another caller finds
 //!   no statement to claim while this one is out, and a third one's revision is judged;
-//! - `["release"]`: the latest release.
+//! - `["swap", BY, SCRIPT]`: a turn, while which another caller replaces the script;
+//! - `["give up", BY]`: a caller claims a statement and gives it up;
+//! - `["rescript", BY, SCRIPT]`;
+//! - `["rounds", BY, N]`: N times a revision puts the point x of A, to 1, 2 and so on, and a round of one statement is run;
+//! - `["release"]`, the latest release, `["release", NUMBER]` and `["holding", RECEIPT]`.
 //!
 //! `data/` holds the cases, and `stdout` what must come of them by the rules that their files name.
 #![tactic(auto)]
+
+ghost use Rattle.std.specs.Prelude.{◌≡◌};
+ghost use Rattle.plain_scripts.specs.Inputs.{STRUCTURES};
 
 mod revisions;
 mod scripts;
 mod turns;
 
-use crate::revisions::revision_at;
-use crate::scripts::{of_script, of_structures};
-use crate::turns::{take_turn, take_turn_with_news};
+use crate::revisions::{one_row, revision_at};
+use crate::scripts::{limits_at, of_script, of_structures, plain_script};
+use crate::turns::{give_up, take_turn, take_turn_with_news, take_turn_with_script};
 use anyhow::{Result, bail};
-use case_lines::{answer_files, integer_at, items, list_at, text_at};
+use case_lines::{answer_files, items, list_at, text_at};
 use commands::lines::verdict_line;
 use outside::SureSink;
-use round_core::{Given, Production, SubmitStop};
+use release_text::Release;
+use round_core::{Given, NoRelease, Production, RescriptStop, SubmitStop};
 use serde_json::Value as Json;
 use std::alloc::Global;
 use std::marker::Sync;
 use std::str;
 use std::thread::Threads;
 
-// The number of the caller.
-fn caller(step: &[Json]) -> Result<u64> {
-    match step.get(1).and_then(Json::as_u64) {
-        Some(by) => Ok(by),
-        None => bail!("no caller"),
+// The number at this place of a step.
+fn number_at(step: &[Json], at: usize) -> Result<u64> {
+    match step.get(at).and_then(Json::as_u64) {
+        Some(number) => Ok(number),
+        None => bail!("no number at {at}"),
     }
 }
 
-fn judged(alloc: Global, production: &mut Production, step: &[Json]) -> Result<String> {
+fn caller(step: &[Json]) -> Result<u64> {
+    number_at(step, 1)
+}
+
+fn judged(alloc: Global, production: &mut Production, step: &[Json]) -> Result<String>
+    ensures { production.new.script ≡ production.old.script }
+{
     let revision = revision_at(alloc, step)?;
     match production.judge_one(caller(step)?, revision) {
         Ok(verdict) => {
@@ -52,7 +66,9 @@ fn judged(alloc: Global, production: &mut Production, step: &[Json]) -> Result<S
     }
 }
 
-fn opened(alloc: Global, production: &mut Production, step: &[Json]) -> Result<String> {
+fn opened(alloc: Global, production: &mut Production, step: &[Json]) -> Result<String>
+    ensures { production.new.script ≡ production.old.script }
+{
     match production.open_round(caller(step)?) {
         Ok(round) => Ok(format!(in alloc; "round {round}")?),
         Err(stop) => Ok(format!(in alloc; "{stop:?}")?),
@@ -73,7 +89,9 @@ fn turned<R: Threads + Sync>(
     alloc: Global,
     production: &mut Production,
     step: &[Json],
-) -> Result<String> {
+) -> Result<String>
+    ensures { production.new.script ≡ production.old.script }
+{
     let by = caller(step)?;
     let given = match step.get(2) {
         Some(_) => {
@@ -88,31 +106,156 @@ fn turned<R: Threads + Sync>(
     }
 }
 
-// The text of the latest release, on one line.
-fn released(alloc: Global, production: &Production) -> Result<String> {
+fn swapped<R: Threads + Sync>(
+    rt: &R,
+    alloc: Global,
+    production: &mut Production,
+    step: &[Json],
+) -> Result<String>
+    requires { production.old.script.inputs ≡ STRUCTURES }
+    ensures { production.new.script ≡ production.old.script }
+{
+    let by = caller(step)?;
+    let script = plain_script(alloc, text_at(step, 2)?)?;
+    match take_turn_with_script(rt, alloc, production, by, script) {
+        Ok(given) => given_text(alloc, &given),
+        Err(stop) => Ok(format!(in alloc; "{stop:?}")?),
+    }
+}
+
+fn given_up(alloc: Global, production: &mut Production, step: &[Json]) -> Result<String>
+    ensures { production.new.script ≡ production.old.script }
+{
+    match give_up(production, caller(step)?) {
+        Ok(given) => given_text(alloc, &given),
+        Err(stop) => Ok(format!(in alloc; "{stop:?}")?),
+    }
+}
+
+fn rescripted(alloc: Global, production: &mut Production, step: &[Json]) -> Result<String>
+    requires { production.old.script.inputs ≡ STRUCTURES }
+    ensures { production.new.script ≡ production.old.script }
+{
+    let script = plain_script(alloc, text_at(step, 2)?)?;
+    match production.rescript(caller(step)?, script) {
+        Ok(number) => Ok(format!(in alloc; "script {number}")?),
+        Err(RescriptStop::Full(full)) => Ok(format!(in alloc; "full {full:?}")?),
+        Err(RescriptStop::Memory) => bail!("out of memory"),
+    }
+}
+
+// One more round of one statement, in which x is this number.
+fn next_round<R: Threads + Sync>(
+    rt: &R,
+    alloc: Global,
+    production: &mut Production,
+    by: u64,
+    number: u64,
+) -> Result<String>
+    ensures { production.new.script ≡ production.old.script }
+{
+    let row = format!(in alloc; "+x,{number}")?;
+    let revision = one_row(alloc, "A", row.as_str())?;
+    if production.judge_one(by, revision).is_err() || production.open_round(by).is_err() {
+        bail!("no round {number}");
+    }
+    match take_turn(rt, alloc, production, by) {
+        Ok(given) => given_text(alloc, &given),
+        Err(stop) => Ok(format!(in alloc; "{stop:?}")?),
+    }
+}
+
+fn rounds<R: Threads + Sync>(
+    rt: &R,
+    alloc: Global,
+    production: &mut Production,
+    step: &[Json],
+) -> Result<String>
+    ensures { production.new.script ≡ production.old.script }
+{
+    let (by, count) = (caller(step)?, number_at(step, 2)?);
+    let mut last = String::new(alloc);
+    for number in 0..count {
+        last = next_round(rt, alloc, production, by, number.saturating_add(1))?;
+    }
+    Ok(last)
+}
+
+// The text of a release, on one line.
+fn release_text(alloc: Global, release: &Release) -> Result<String> {
     let mut sink = SureSink {
         taken: Vec::new(alloc),
     };
-    if production.latest().write_to(&mut sink, Ok(())).is_err() {
+    if release.write_to(&mut sink, Ok(())).is_err() {
         bail!("out of memory");
     }
     let text = str::from_utf8(sink.taken.as_slice())?.trim_end();
     Ok(text.replace(alloc, "\n", " / ")?)
 }
 
+fn released(alloc: Global, production: &Production, step: &[Json]) -> Result<String> {
+    let Some(number) = step.get(1).and_then(Json::as_u64) else {
+        return release_text(alloc, production.latest());
+    };
+    match production.release(number) {
+        Ok(release) => release_text(alloc, release),
+        Err(NoRelease::Gone(oldest)) => Ok(format!(in alloc; "gone {oldest}")?),
+        Err(NoRelease::NotYet(latest)) => Ok(format!(in alloc; "not yet {latest}")?),
+    }
+}
+
+fn held(alloc: Global, production: &Production, step: &[Json]) -> Result<String> {
+    match production.holding(number_at(step, 1)?) {
+        Ok(release) => release_text(alloc, release),
+        Err(prefix) => Ok(format!(in alloc; "not yet prefix {prefix}")?),
+    }
+}
+
+// A step that any production takes.
 fn step_text<R: Threads + Sync>(
     rt: &R,
     alloc: Global,
     production: &mut Production,
     step: &[Json],
-) -> Result<String> {
+) -> Result<String>
+    ensures { production.new.script ≡ production.old.script }
+{
     match text_at(step, 0)? {
         "judge" => judged(alloc, production, step),
         "open" => opened(alloc, production, step),
         "turn" => turned(rt, alloc, production, step),
-        "release" => released(alloc, production),
+        "give up" => given_up(alloc, production, step),
+        "rounds" => rounds(rt, alloc, production, step),
+        "release" => released(alloc, production, step),
+        "holding" => held(alloc, production, step),
         step => bail!("no step {step}"),
     }
+}
+
+// A step that a production of a plain script takes.
+fn plain_step_text<R: Threads + Sync>(
+    rt: &R,
+    alloc: Global,
+    production: &mut Production,
+    step: &[Json],
+) -> Result<String>
+    requires { production.old.script.inputs ≡ STRUCTURES }
+    ensures { production.new.script ≡ production.old.script }
+{
+    match text_at(step, 0)? {
+        "rescript" => rescripted(alloc, production, step),
+        "swap" => swapped(rt, alloc, production, step),
+        _ => step_text(rt, alloc, production, step),
+    }
+}
+
+// Adds what a step answers.
+fn and_answer(mut out: String, text: &str) -> Result<String> {
+    if !out.is_empty() {
+        out.push_str("; ")?;
+    }
+    out.push_str(text)?;
+    Ok(out)
 }
 
 // What the steps answer, one after the other.
@@ -125,23 +268,35 @@ fn steps_text<R: Threads + Sync>(
     let mut out = String::new(alloc);
     for step in steps {
         let text = step_text(rt, alloc, production, items(step)?)?;
-        if !out.is_empty() {
-            out.push_str("; ")?;
-        }
-        out.push_str(text.as_str())?;
+        out = and_answer(out, text.as_str())?;
+    }
+    Ok(out)
+}
+
+// The same, of a plain script.
+fn plain_steps_text<R: Threads + Sync>(
+    rt: &R,
+    alloc: Global,
+    production: &mut Production,
+    steps: &[Json],
+) -> Result<String>
+    requires { production.old.script.inputs ≡ STRUCTURES }
+{
+    let mut out = String::new(alloc);
+    for step in steps {
+        let text = plain_step_text(rt, alloc, production, items(step)?)?;
+        out = and_answer(out, text.as_str())?;
     }
     Ok(out)
 }
 
 fn answer<R: Threads + Sync>(rt: &R, alloc: Global, call: &str, words: &[Json]) -> Result<String> {
     if call == "structures" {
-        let (entries, fields) = (integer_at(words, 2)?, integer_at(words, 3)?);
-        let mut production = of_structures(alloc, words.get(1), entries, fields)?;
-        return steps_text(rt, alloc, &mut production, list_at(words, 4)?);
+        let mut production = of_structures(alloc, words.get(1), limits_at(words, 2)?)?;
+        return steps_text(rt, alloc, &mut production, list_at(words, 5)?);
     }
-    let (entries, fields) = (integer_at(words, 1)?, integer_at(words, 2)?);
-    let mut production = of_script(alloc, call, entries, fields)?;
-    steps_text(rt, alloc, &mut production, list_at(words, 3)?)
+    let mut production = of_script(alloc, call, limits_at(words, 1)?)?;
+    plain_steps_text(rt, alloc, &mut production, list_at(words, 4)?)
 }
 
 fn main(rt: HostRuntime) -> Result<()> {

@@ -75,3 +75,16 @@ pub fn revision_at(alloc: Global, step: &[Json]) -> Result<Revision> {
         parts: Items::from_vec(parts),
     })
 }
+
+/// The revision of one part with one row.
+pub fn one_row(alloc: Global, set: &str, text: &str) -> Result<Revision> {
+    let part = Part {
+        set: Word::from_str(alloc, set)?,
+        rows: Items::from_vec(rows(alloc, text)?),
+    };
+    let mut parts = Vec::new(alloc);
+    parts.push(part)?;
+    Ok(Revision {
+        parts: Items::from_vec(parts),
+    })
+}

@@ -1,13 +1,13 @@
 // Callers that claim a statement, work it out and give it back.
 ghost use Rattle.std.specs.Prelude.{◌≡◌, ◌<◌};
-ghost use Rattle.checked_trees.specs.Scripts.{Script};
 ghost use Rattle.transform_nodes.specs.Nodes.{CanRun};
 ghost use Rattle.round_journal.specs.Journals.{State};
 ghost use Rattle.round_journal.specs.Stands.{WorkStands, DoneStands};
 
+use checked_trees::CheckedScript;
 use data_model::steps::Steps;
 use point_sets::Revision;
-use round_core::{ClaimStop, Given, Production, SubmitStop};
+use round_core::{ClaimStop, Given, Production, RescriptStop, SubmitStop};
 use round_journal::Verdict;
 use std::alloc::Global;
 use std::marker::{Brand, Sync};
@@ -20,6 +20,7 @@ use transform_nodes::{Done, Work};
 pub enum TurnStop {
     Claim(ClaimStop),
     Submit(SubmitStop),
+    Rescript(RescriptStop),
     Unexpected,
 }
 
@@ -35,13 +36,19 @@ impl From<SubmitStop> for TurnStop {
     }
 }
 
+impl From<RescriptStop> for TurnStop {
+    fn from(stop: RescriptStop) -> Self {
+        TurnStop::Rescript(stop)
+    }
+}
+
 // Runs a work whose steps nobody counts.
 fn run_work<R: Threads + Sync, L: Ledger>(rt: &R, alloc: Global, blank: Blank, work: Work) -> Done
     requires stands { CanRun work }
     requires name { blank.name ≡ L.name }
     requires parts { (blank.parts ≡ L.parts) × (0 < L.parts) }
     ensures statement { result.statement ≡ work.statement }
-    ensures stands { (script : Script) (state : State) → WorkStands script state work → DoneStands script state result }
+    ensures stands { (state : State) → WorkStands state work → DoneStands state result }
 {
     let mut steps = Steps::<L>::new(blank);
     work.run(rt, alloc, &mut steps)
@@ -53,7 +60,9 @@ pub fn take_turn<R: Threads + Sync>(
     alloc: Global,
     production: &mut Production,
     by: u64,
-) -> Result<Given, TurnStop> {
+) -> Result<Given, TurnStop>
+    ensures { production.new.script ≡ production.old.script }
+{
     let work = production.claim(by)?;
     let done = run_work::<R, Brand>(rt, alloc, Blank::new(1), work);
     Ok(production.give(by, done))
@@ -66,7 +75,9 @@ pub fn take_turn_with_news<R: Threads + Sync>(
     production: &mut Production,
     by: u64,
     news: Revision,
-) -> Result<Given, TurnStop> {
+) -> Result<Given, TurnStop>
+    ensures { production.new.script ≡ production.old.script }
+{
     let work = production.claim(by)?;
     let Err(ClaimStop::NoneReady { out: 1 }) = production.claim(2) else {
         return Err(TurnStop::Unexpected);
@@ -78,4 +89,31 @@ pub fn take_turn_with_news<R: Threads + Sync>(
     let _ = production.journal();
     let done = run_work::<R, Brand>(rt, alloc, Blank::new(1), work);
     Ok(production.give(by, done))
+}
+
+/// The same, where another caller replaces the script while the statement is out.
+pub fn take_turn_with_script<R: Threads + Sync>(
+    rt: &R,
+    alloc: Global,
+    production: &mut Production,
+    by: u64,
+    script: CheckedScript,
+) -> Result<Given, TurnStop>
+    requires { script.inputs ≡ production.old.script.inputs }
+    ensures { production.new.script ≡ production.old.script }
+{
+    let work = production.claim(by)?;
+    production.rescript(2, script)?;
+    // Called for its clause, that the journal is legal.
+    let _ = production.journal();
+    let done = run_work::<R, Brand>(rt, alloc, Blank::new(1), work);
+    Ok(production.give(by, done))
+}
+
+/// A caller claims a statement and gives it up.
+pub fn give_up(production: &mut Production, by: u64) -> Result<Given, ClaimStop>
+    ensures { production.new.script ≡ production.old.script }
+{
+    let work = production.claim(by)?;
+    Ok(production.give(by, work.give_up()))
 }

@@ -1,6 +1,7 @@
-use Rattle.commands.proofs.RoundLemmas.{done_stands}
+use Rattle.round_journal.proofs.StandLemmas.{DoneStands-from_work}
 use Rattle.round_cases.proofs.turns.run_work.Goals as goal
 
 pub returns-clause-stands : goal.returns-clause-stands
-returns-clause-stands g c = λ script state stands.
-    done_stands script state c.args.work c.run.result stands c.run.ensures.round c.run.ensures.base c.run.ensures.to c.run.ensures.stands
+returns-clause-stands g c = λ state stands.
+    DoneStands-from_work state c.args.work c.run.result
+    (record { round = c.run.ensures.round; statement = c.run.ensures.statement; base = c.run.ensures.base; to = c.run.ensures.to; stands = c.run.ensures.stands }) stands

@@ -10,13 +10,13 @@ give-requires-clause-out g c =
     let p = c.claim.new.self in
     let v = c.in_ok-judge_one.field-0 in
     let is = c.in_ok-judge_one.ensures.judged.1 ∙ ap (λ (p : Seen). seen_with p 3 (Judged c.args.news v)) c.in-Err-NoneReady-eq1.ensures.err in
-    let out = subst (λ (i : ℕ). IsOutBy p.script (state_in p) c.args.by i) (sym c.run_work-done.ensures.statement) c.in_ok-work.ensures.claimed.out in
-    out_still p c.judge_one.new.self c.args.by 3 c.run_work-done.result.statement c.args.news v is c.journal.ensures.legal out
+    let out = subst (λ (i : ℕ). IsOutBy (state_in p) c.args.by i) (sym c.run_work-done.ensures.statement) c.in_ok-work.ensures.claimed.out in
+    out_still p c.judge_one.new.self c.args.by 3 c.run_work-done.result.statement (Judged c.args.news v) tt is c.journal.ensures.legal out
 
 pub give-requires-clause-stands : goal.give-requires-clause-stands
 give-requires-clause-stands g c =
     let p = c.claim.new.self in
     let v = c.in_ok-judge_one.field-0 in
     let is = c.in_ok-judge_one.ensures.judged.1 ∙ ap (λ (p : Seen). seen_with p 3 (Judged c.args.news v)) c.in-Err-NoneReady-eq1.ensures.err in
-    let out = subst (λ (i : ℕ). IsOutBy p.script (state_in p) c.args.by i) (sym c.run_work-done.ensures.statement) c.in_ok-work.ensures.claimed.out in
-    done_still p c.judge_one.new.self c.args.by 3 c.run_work-done.result c.args.news v is c.journal.ensures.legal out (c.run_work-done.ensures.stands p.script (state_in p) c.in_ok-work.ensures.claimed.stands)
+    let out = subst (λ (i : ℕ). IsOutBy (state_in p) c.args.by i) (sym c.run_work-done.ensures.statement) c.in_ok-work.ensures.claimed.out in
+    done_still p c.judge_one.new.self c.args.by 3 c.run_work-done.result (Judged c.args.news v) tt is c.journal.ensures.legal out (c.run_work-done.ensures.stands (state_in p) c.in_ok-work.ensures.claimed.stands)
