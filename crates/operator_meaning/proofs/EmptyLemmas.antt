@@ -43,7 +43,7 @@ abbrev pub empties : {A : Type 0} → List A → List DataSet
 empties = map (λ _. empty)
 
 parts-empty : (op : CheckedOp) (operands : List (List Component)) (structure : List Component) → IsTyped (record { op = op; operands = operands; structure = structure }) → meaning_of (record { op = op; operands = operands; structure = structure }) (empties operands) ≡ made empty
-parts-empty (Pair Sum) operands structure typed = ap (λ (ss : List (List Component)). meaning_of (record { op = Pair Sum; operands = operands; structure = structure }) (empties ss)) typed.0 ∙ sum-empty
+parts-empty (Pair Sum) operands structure typed = ap (λ (ss : List (List Component)). meaning_of (record { op = Pair Sum; operands = operands; structure = structure }) (empties ss)) typed.two ∙ sum-empty
 
 -- what a typed operator gives on empty operands is empty
 pub meaning_of-empty : (o : Operator) → IsTyped o → meaning_of o (empties o.operands) ≡ made empty

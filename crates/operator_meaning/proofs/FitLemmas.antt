@@ -1,15 +1,14 @@
 -- Data sets that operators, expressions and statements give are of their structures.
 use Rattle.std.proofs.Common.{◌≡◌, ◌+◌, ℕ, ℤ, zero, suc, List, [], ◌∷◌, map, Bool, true, false, cond, Option, Some, None, Result, Ok, Err, option_map, refl, sym, ◌∙◌, ap, subst, inl, inr, arith}
 use Rattle.std.specs.Option.{is_some, unwrap_or, IfSome, option_and_then, option_zip}
-use Rattle.std.specs.List.{AllZip, list_all, slice_get}
+use Rattle.std.specs.Prelude.{filter, not}
+use Rattle.std.specs.List.{All, AllZip, list_all, slice_get}
 use Rattle.std.specs.FinMap.{empty, get, len, get-empty, len-empty}
 use Rattle.std.proofs.lemmas.Bool.{cases_eq}
-use Rattle.std.proofs.lemmas.List.Elements.{All-get_or}
+use Rattle.std.proofs.lemmas.List.Elements.{All-get_or, All-head, All-tail}
 use Rattle.std.proofs.lemmas.Option.{get_or_from_slice_get, slice_get_within}
 use Rattle.vtl_values.specs.declared.kind.Kind.{Kind}
 use Rattle.vtl_values.specs.declared.kind.Kind.TheVariants.{Number as NumberKind}
-use Rattle.vtl_values.specs.declared.kind.Role.{Role}
-use Rattle.vtl_values.specs.declared.kind.Role.TheVariants.{Measure}
 use Rattle.vtl_values.specs.declared.structure.Codes.{Codes}
 use Rattle.vtl_values.specs.declared.structure.Codes.TheVariants.{Any, Listed}
 use Rattle.vtl_values.specs.declared.structure.Component.{Component}
@@ -24,14 +23,14 @@ use Rattle.vtl_decimals.specs.Arithmetic.{sum_of}
 use Rattle.vtl_decimals.proofs.SchoolLaws.{number_of-made}
 use Rattle.data_model.specs.Outcomes.{Made, Range, TooMany, IsOutcome}
 use Rattle.point_sets.specs.DataSets.{DataSet}
-use Rattle.structured_sets.specs.Fitting.{others, FitsComponent, IsPointOf, IsBoundedSetOf, is_in_codes}
+use Rattle.structured_sets.specs.Fitting.{is_identifier, identifiers, others, FitsComponent, FitsIdentifier, IsPointOf, IsBoundedSetOf, is_in_codes}
 use Rattle.checked_trees.specs.declared.script.CheckedStatement.{CheckedStatement}
 use Rattle.checked_trees.specs.declared.tree.Source.{Source}
 use Rattle.checked_trees.specs.declared.tree.Source.TheVariants.{Input, Result as ResultOf}
 use Rattle.checked_trees.specs.declared.tree.CheckedOp.{CheckedOp}
 use Rattle.checked_trees.specs.declared.tree.CheckedOp.TheVariants.{Pair}
 use Rattle.checked_trees.specs.declared.tree.CheckedPair.TheVariants.{Sum}
-use Rattle.checked_trees.specs.Operators.{Operator, IsTyped, IsOneNumber, role_and_kind}
+use Rattle.checked_trees.specs.Operators.{Operator, IsTyped, IsTypedSum, IsNumber as IsNumberMeasure, without_codes}
 use Rattle.checked_trees.specs.Expressions.{Expression, Expressions, Named, Applied, none, more, expression_of}
 use Rattle.checked_trees.specs.Scripts.{Script, IsChecked, names_in, structure_of_source}
 use Rattle.checked_trees.specs.Typing.{HasStructure, HaveStructures}
@@ -63,43 +62,41 @@ plus-fits c x y z kind e =
     let number = number_or_null x y z e in
     record { kind = subst (λ (k : Kind). Fits k z) (sym kind) number; codes = number-in_codes c.codes z number }
 
-abbrev first_kind : List (Role × Kind) → Kind
-first_kind [] = NumberKind
-first_kind (p ∷ ps) = p.1
-
-plus_one-fits : (c : Component) (x y : Value) (zs : List Value) → c.kind ≡ NumberKind → plus_all (x ∷ []) (y ∷ []) ≡ Some zs → AllZip FitsComponent (c ∷ []) zs
-plus_one-fits c x y zs kind e = by_sum (plus x y) refl e
+plus_all-fits : (cs : List Component) (xs ys zs : List Value) → All IsNumberMeasure cs → AllZip FitsComponent cs xs → AllZip FitsComponent cs ys → plus_all xs ys ≡ Some zs → AllZip FitsComponent cs zs
+plus_all-fits [] [] ys zs numbers fx fy e = let same : [] ≡ zs = cc in subst (λ (vs : List Value). AllZip FitsComponent [] vs) same tt
+plus_all-fits [] (x ∷ xs) ys zs numbers fx fy e = absurd fx
+plus_all-fits (c ∷ cs) [] ys zs numbers fx fy e = absurd fx
+plus_all-fits (c ∷ cs) (x ∷ xs) [] zs numbers fx fy e = absurd fy
+plus_all-fits (c ∷ cs) (x ∷ xs) (y ∷ ys) zs numbers fx fy e =
+    by_sums (plus x y) (plus_all xs ys) refl (λ vs rest. plus_all-fits cs xs ys vs (All-tail IsNumberMeasure c cs numbers) fx.1 fy.1 rest) e
   where
-    by_sum : (o : Option Value) → plus x y ≡ o → option_map {T = Value × List Value} (λ p. p.0 ∷ p.1) (option_zip o (Some [])) ≡ Some zs → AllZip FitsComponent (c ∷ []) zs
-    by_sum None same e = cc
-    by_sum (Some z) same e = let is : z ∷ [] ≡ zs = cc in subst (λ (vs : List Value). AllZip FitsComponent (c ∷ []) vs) is (plus-fits c x y z kind same, tt)
-
-plus_all-fits : (cs : List Component) (xs ys zs : List Value) → map role_and_kind cs ≡ (Measure, NumberKind) ∷ [] → AllZip FitsComponent cs xs → AllZip FitsComponent cs ys → plus_all xs ys ≡ Some zs → AllZip FitsComponent cs zs
-plus_all-fits [] xs ys zs one fx fy e = cc
-plus_all-fits (c ∷ d ∷ cs) xs ys zs one fx fy e = cc
-plus_all-fits (c ∷ []) (x ∷ []) (y ∷ []) zs one fx fy e = plus_one-fits c x y zs (ap first_kind one) e
-plus_all-fits (c ∷ []) [] ys zs one fx fy e = absurd fx
-plus_all-fits (c ∷ []) (x ∷ x' ∷ xs) ys zs one fx fy e = absurd fx.1
-plus_all-fits (c ∷ []) (x ∷ []) [] zs one fx fy e = absurd fy
-plus_all-fits (c ∷ []) (x ∷ []) (y ∷ y' ∷ ys) zs one fx fy e = absurd fy.1
+    by_sums : (o : Option Value) (os : Option (List Value)) → plus x y ≡ o → ((vs : List Value) → os ≡ Some vs → AllZip FitsComponent cs vs) → option_map {T = Value × List Value} (λ p. p.0 ∷ p.1) (option_zip o os) ≡ Some zs → AllZip FitsComponent (c ∷ cs) zs
+    by_sums None os same rest e = cc
+    by_sums (Some z) None same rest e = cc
+    by_sums (Some z) (Some vs) same rest e =
+        let is : z ∷ vs ≡ zs = cc in
+        subst (λ (ws : List Value). AllZip FitsComponent (c ∷ cs) ws) is (plus-fits c x y z (All-head IsNumberMeasure c cs numbers).1 same, rest vs refl)
 
 -- ---- points and data sets
 
-point-fits : (cs : List Component) (k : List Value) (p q : Option (List Value)) → IsOneNumber cs → IfSome p (IsPointOf cs k) → IfSome q (IsPointOf cs k)
+abbrev AreNumbers : List Component → Type 0
+AreNumbers cs = All IsNumberMeasure (others cs)
+
+point-fits : (cs : List Component) (k : List Value) (p q : Option (List Value)) → AreNumbers cs → IfSome p (IsPointOf cs k) → IfSome q (IsPointOf cs k)
     → IfSome (evaluated (option_and_then (λ xs. option_map (λ ys. plus_all xs ys) q) p)) (IsPointOf cs k)
-point-fits cs k None q one fp fq = tt
-point-fits cs k (Some xs) None one fp fq = tt
-point-fits cs k (Some xs) (Some ys) one fp fq = by_sum (plus_all xs ys) refl
+point-fits cs k None q numbers fp fq = tt
+point-fits cs k (Some xs) None numbers fp fq = tt
+point-fits cs k (Some xs) (Some ys) numbers fp fq = by_sum (plus_all xs ys) refl
   where
     by_sum : (o : Option (List Value)) → plus_all xs ys ≡ o → IfSome o (IsPointOf cs k)
     by_sum None e = tt
-    by_sum (Some zs) e = record { key_fits = fp.key_fits; rest_fits = plus_all-fits (others cs) xs ys zs one fp.rest_fits fq.rest_fits e }
+    by_sum (Some zs) e = record { key_fits = fp.key_fits; rest_fits = plus_all-fits (others cs) xs ys zs numbers fp.rest_fits fq.rest_fits e }
 
-sum-fits : (cs : List Component) (a b y : DataSet) → IsOneNumber cs → IsBoundedSetOf cs a → IsBoundedSetOf cs b → sum a b ≡ Made y → IsBoundedSetOf cs y
-sum-fits cs a b y one fa fb e =
+sum-fits : (cs : List Component) (a b y : DataSet) → AreNumbers cs → IsBoundedSetOf cs a → IsBoundedSetOf cs b → sum a b ≡ Made y → IsBoundedSetOf cs y
+sum-fits cs a b y numbers fa fb e =
     let h = subst (λ (o : SetOutcome). IsOutcome {R = key_cmp} (λ k. is_out_of_range (sum_at a b k)) (λ k. evaluated (sum_at a b k)) o) e (sum-IsOutcome a b) in
     record {
-      fits = λ k. subst (λ (o : Option (List Value)). IfSome o (IsPointOf cs k)) (sym (h.0.values k)) (point-fits cs k (get a k) (get b k) one (fa.fits k) (fb.fits k));
+      fits = λ k. subst (λ (o : Option (List Value)). IfSome o (IsPointOf cs k)) (sym (h.0.values k)) (point-fits cs k (get a k) (get b k) numbers (fa.fits k) (fb.fits k));
       few = h.1;
     }
 
@@ -108,15 +105,52 @@ empty-fits cs = record { fits = λ k. rw (get-empty key_cmp k) tt; few = let non
 
 -- ---- operators
 
-two-fit : (s : List Component) (xs : List DataSet) (y : DataSet) → IsOneNumber s → AreOperands (s ∷ s ∷ []) xs → on_two sum xs ≡ Made y → IsBoundedSetOf s y
-two-fit s [] y one h e = absurd h
-two-fit s (a ∷ []) y one h e = absurd h.1
-two-fit s (a ∷ b ∷ []) y one h e = sum-fits s a b y one h.0 h.1.0 e
-two-fit s (a ∷ b ∷ c ∷ xs) y one h e = absurd h.1.1
+-- without code lists more values fit
+FitsComponent-open : (c : Component) (v : Value) → FitsComponent c v → FitsComponent (without_codes c) v
+FitsComponent-open c v h = record { kind = h.kind; codes = refl }
+
+FitsIdentifier-open : (c : Component) (v : Value) → FitsIdentifier c v → FitsIdentifier (without_codes c) v
+FitsIdentifier-open c v h = record { fits = FitsComponent-open c v h.fits; some = h.some }
+
+AllZip-open : (F : Component → Value → Type 0) → ((c : Component) (v : Value) → F c v → F (without_codes c) v) → (cs : List Component) (vs : List Value) → AllZip F cs vs → AllZip F (map without_codes cs) vs
+AllZip-open F opens [] [] h = h
+AllZip-open F opens [] (v ∷ vs) h = h
+AllZip-open F opens (c ∷ cs) [] h = h
+AllZip-open F opens (c ∷ cs) (v ∷ vs) h = (opens c v h.0, AllZip-open F opens cs vs h.1)
+
+filter-open : (p : Component → Bool) → ((c : Component) → p (without_codes c) ≡ p c) → (cs : List Component) → filter p (map without_codes cs) ≡ map without_codes (filter p cs)
+filter-open p same [] = refl
+filter-open p same (c ∷ cs) = rw (same c, filter-open p same cs) (elim (p c) as (λ b. cond b (without_codes c ∷ map without_codes (filter p cs)) (map without_codes (filter p cs)) ≡ map without_codes (cond b (c ∷ filter p cs) (filter p cs))) [ true ↦ refl | false ↦ refl ])
+
+IsPointOf-open : (cs : List Component) (key rest : List Value) → IsPointOf cs key rest → IsPointOf (map without_codes cs) key rest
+IsPointOf-open cs key rest h = record {
+  key_fits = subst (λ ds. AllZip FitsIdentifier ds key) (sym (filter-open is_identifier (λ c. refl) cs)) (AllZip-open FitsIdentifier FitsIdentifier-open (identifiers cs) key h.key_fits);
+  rest_fits = subst (λ ds. AllZip FitsComponent ds rest) (sym (filter-open (λ c. not (is_identifier c)) (λ c. refl) cs)) (AllZip-open FitsComponent FitsComponent-open (others cs) rest h.rest_fits);
+}
+
+-- a data set of a structure is one of the structure without code lists
+IsBoundedSetOf-open : (cs : List Component) (m : DataSet) → IsBoundedSetOf cs m → IsBoundedSetOf (map without_codes cs) m
+IsBoundedSetOf-open cs m h = record { fits = λ k. point (get m k) k (h.fits k); few = h.few }
+  where
+    point : (o : Option (List Value)) (k : List Value) → IfSome o (IsPointOf cs k) → IfSome o (IsPointOf (map without_codes cs) k)
+    point None k i = tt
+    point (Some rest) k i = IsPointOf-open cs k rest i
+
+two-fit : (operands : List (List Component)) (structure : List Component) (xs : List DataSet) (y : DataSet) → IsTypedSum operands structure → AreOperands operands xs → on_two sum xs ≡ Made y → IsBoundedSetOf structure y
+two-fit operands structure xs y typed h e = of_two xs (subst (λ (ss : List (List Component)). AreOperands ss xs) typed.two h) e
+  where
+    of_two : (xs : List DataSet) → AreOperands (typed.left ∷ typed.right ∷ []) xs → on_two sum xs ≡ Made y → IsBoundedSetOf structure y
+    of_two [] h e = absurd h
+    of_two (a ∷ []) h e = absurd h.1
+    of_two (a ∷ b ∷ []) h e =
+        let fa = subst (λ (s : List Component). IsBoundedSetOf s a) typed.left_alike (IsBoundedSetOf-open typed.left a h.0) in
+        let fb = subst (λ (s : List Component). IsBoundedSetOf s b) typed.right_alike (IsBoundedSetOf-open typed.right b h.1.0) in
+        sum-fits structure a b y typed.numbers fa fb e
+    of_two (a ∷ b ∷ c ∷ xs) h e = absurd h.1.1
 
 parts-fit : (op : CheckedOp) (operands : List (List Component)) (structure : List Component) (xs : List DataSet) (y : DataSet)
     → IsTyped (record { op = op; operands = operands; structure = structure }) → AreOperands operands xs → meaning_of (record { op = op; operands = operands; structure = structure }) xs ≡ Made y → IsBoundedSetOf structure y
-parts-fit (Pair Sum) operands structure xs y typed h e = two-fit structure xs y typed.1 (subst (λ (ss : List (List Component)). AreOperands ss xs) typed.0 h) e
+parts-fit (Pair Sum) operands structure xs y typed h e = two-fit operands structure xs y typed h e
 
 -- what a typed operator gives on operands of its structures is of its structure
 pub meaning_of-fits : (o : Operator) (xs : List DataSet) (y : DataSet) → IsTyped o → AreOperands o.operands xs → meaning_of o xs ≡ Made y → IsBoundedSetOf o.structure y

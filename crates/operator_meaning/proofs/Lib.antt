@@ -1,4 +1,3 @@
-pub mod SoFar
 pub mod SumLemmas
 pub mod Items
 pub mod ScriptLemmas

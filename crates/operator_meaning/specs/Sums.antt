@@ -19,13 +19,9 @@ abbrev pub plus_all : List Value → List Value → Option (List Value)
 plus_all (x ∷ xs) (y ∷ ys) = option_map (λ p. p.0 ∷ p.1) (option_zip (plus x y) (plus_all xs ys))
 plus_all xs ys = Some []
 
--- the evaluation of these measures with the point that a data set has at the key, if it has one
-abbrev pub sum_with : DataSet → List Value → List Value → Option (Option (List Value))
-sum_with b k xs = option_map (λ ys. plus_all xs ys) (get b k)
-
 -- the evaluation at a key: where both have a point
 abbrev pub sum_at : DataSet → DataSet → List Value → Option (Option (List Value))
-sum_at a b k = option_and_then (λ xs. sum_with b k xs) (get a k)
+sum_at a b k = option_and_then (λ xs. option_map (λ ys. plus_all xs ys) (get b k)) (get a k)
 
 -- an evaluation is out of range where it is made and has no value
 abbrev pub is_out_of_range : Option (Option (List Value)) → Bool

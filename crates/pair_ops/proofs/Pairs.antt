@@ -152,4 +152,4 @@ pub two_operands : (o : Operator) → IsTyped o → length o.operands ≡ 2
 two_operands o typed = of_op o.op o.operands o.structure typed
   where
     of_op : (op : CheckedOp) (operands : List (List Component)) (structure : List Component) → IsTyped (an_operator op operands structure) → length operands ≡ 2
-    of_op (PairOp Sum) operands structure typed = ap length typed.0
+    of_op (PairOp Sum) operands structure typed = ap length typed.two

@@ -6,7 +6,7 @@ ghost use Rattle.point_sets.specs.DataSets.{HasKey};
 ghost use Rattle.point_sets.specs.Changes.{values_of};
 ghost use Rattle.pair_ops.specs.Evaluations.{sum_of_points, evaluation_of, point_in};
 
-use operator_meaning::sum::plus_all;
+use operator_meaning::plus_all;
 use point_sets::{Key, Point};
 use sqlite_items::Items;
 use std::alloc::{AllocError, Global};

@@ -12,8 +12,8 @@ use Rattle.transform_nodes.specs.declared.rule.Rule.{Rule}
 use Rattle.transform_nodes.specs.declared.rule.Rule.TheVariants.{Pair}
 
 both_below : (op : CheckedOp) (operands : List (List Component)) (structure : List Component) → IsTyped (record { op = op; operands = operands; structure = structure }) → All (λ w. w.operand < length operands) both
-both_below (op.Pair Sum) operands structure typed zero d l = let n = ap length typed.0 in omega (arith, n)
-both_below (op.Pair Sum) operands structure typed (suc zero) d l = let n = ap length typed.0 in omega (arith, n)
+both_below (op.Pair Sum) operands structure typed zero d l = let n = ap length typed.two in omega (arith, n)
+both_below (op.Pair Sum) operands structure typed (suc zero) d l = let n = ap length typed.two in omega (arith, n)
 both_below (op.Pair Sum) operands structure typed (suc (suc k)) d l = absurd (omega arith)
 
 -- a rule wants operands that its operator has

@@ -1,6 +1,6 @@
 use Rattle.std.proofs.Common.{◌≡◌}
 use Rattle.operator_meaning.specs.Sums as meant
-use Rattle.operator_meaning.proofs.SoFar.{followed_by}
+use Rattle.operator_meaning.proofs.SumLemmas.{followed_by}
 use Rattle.operator_meaning.proofs.sum.plus_all.Given as goal
 
 -- the sums so far, and after them those of the values that are left
