@@ -8,3 +8,4 @@ pub mod Ordered
 pub mod Passes
 pub mod Points
 pub mod Seeks
+pub mod WholeLemmas

@@ -1,6 +1,6 @@
 -- Changes of data sets, as maps from keys to an old and a new value (docs/language.md, "Data sets").
 use Rattle.std.specs.Prelude.{◌≡◌, ◌≢◌, List, [], ◌∷◌, map, Bool, cond, Option, Some, None, T}
-use Rattle.std.specs.Option.{option_map, option_eq}
+use Rattle.std.specs.Option.{option_map, option_eq, IsSomeAnd}
 use Rattle.std.specs.Arc.{arc_value}
 use Rattle.std.specs.Coded.{Coded}
 use Rattle.std.specs.FinMap.{from_entries, insert, is_sorted}
@@ -13,7 +13,7 @@ use Rattle.vtl_values.specs.declared.value.Value.{Value}
 use Rattle.data_model.specs.Deltas.{Pair, DeltaOf, coded_delta, composed_change}
 use Rattle.point_sets.specs.declared.point.Point.{Point}
 use Rattle.point_sets.specs.declared.delta.Change.{Change}
-use Rattle.point_sets.specs.DataSets.{values_coded, rest_of, HasKey}
+use Rattle.point_sets.specs.DataSets.{values_coded, key_of, rest_of, HasKey}
 
 -- from keys to what was there and what comes there
 abbrev pub Changes : Type 0
@@ -43,6 +43,12 @@ pub record IsChange (c : Change) : Type 0 where
   pub old : HasKey c.key c.old
   pub new : HasKey c.key c.new
   pub differs : values_of c.old ≢ values_of c.new
+
+-- the change by which a point comes
+pub record IsComing (point : Arc Point Global) (change : Change) : Type 0 where
+  pub key : change.key ≡ key_of point
+  pub old : change.old ≡ None
+  pub new : IsSomeAnd change.new (λ p. arc_value p ≡ arc_value point)
 
 -- each key is below those after it, and each change is one
 pub record AreChanges (cs : List Change) : Type 0 where

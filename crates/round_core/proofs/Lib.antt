@@ -16,4 +16,3 @@ mod StepLemmas
 mod RunLemmas
 mod AnswerLemmas
 mod RescriptLemmas
-mod WholeLemmas

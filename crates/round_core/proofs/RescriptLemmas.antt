@@ -7,7 +7,7 @@ use Rattle.checked_trees.specs.Scripts.{Script, IsChecked}
 use Rattle.round_journal.specs.declared.entry.Entry.{Entry}
 use Rattle.round_journal.specs.declared.entry.What.{What}
 use Rattle.round_journal.specs.declared.entry.What.TheVariants.{Rescripted}
-use Rattle.round_journal.specs.Journals.{State, after_what, aside, Over, MayReplace}
+use Rattle.round_journal.specs.Journals.{State, after_what, aside, Over, IsOfProduction}
 use Rattle.round_journal.proofs.ReadyLemmas.{Over-rescripted}
 use Rattle.round_journal.proofs.ReleaseLemmas.{IsRelease-stays}
 use Rattle.round_core.specs.declared.machine.Machine.{Machine}
@@ -46,7 +46,7 @@ kept_rescripted a j newest noted n c k checked same fits en ed ej room =
     let p = in_order a k.within in
     let can = can_rescript (seen_of a) fits in
     let st : t ≡ state_at b = state_along a j.items n w ej in
-    let may : MayReplace s (arc_value noted) = subst (λ (q : Script). MayReplace s q) (sym ed) (record { checked = checked; same_inputs = same ∙ ap (λ (q : Script). q.inputs) o.scripts.first }) in
+    let may : IsOfProduction s (arc_value noted) = subst (λ (q : Script). IsOfProduction s q) (sym ed) (record { checked = checked; same_inputs = same ∙ ap (λ (q : Script). q.inputs) o.scripts.first }) in
     let counts : CountsKept b.counts t = record {
       accepted = old.accepted;
       fields = old.fields;

@@ -8,8 +8,7 @@ use Rattle.checked_trees.specs.declared.tree.Source.{Source}
 use Rattle.checked_trees.specs.declared.tree.Source.TheVariants.{Input, Result as ResultOf}
 use Rattle.checked_trees.specs.Scripts.{Script, IsChecked, sources_of, structure_of_source}
 use Rattle.operator_meaning.specs.Scripts.{states, set_in}
-use Rattle.round_journal.specs.Counts.{IsOfProduction}
-use Rattle.round_journal.specs.Journals.{State, Waiting, Out, Back, new_inputs, IsThere, Ready, NoneReady, Over}
+use Rattle.round_journal.specs.Journals.{State, Waiting, Out, Back, new_inputs, IsThere, Ready, NoneReady, Over, IsOfProduction}
 use Rattle.round_journal.proofs.ScriptLemmas.{sources_of-all, names_of-typed}
 use Rattle.round_core.specs.declared.slot.Slot.{Slot}
 use Rattle.round_core.specs.declared.slot.Stage.{Stage}

@@ -46,6 +46,10 @@ pub starts_older : (x z : DataSet) (delta : Changes) (o : Option (Arc Changes Gl
 starts_older x z delta None h l = absurd h
 starts_older x z delta (Some d) h l = subst (λ (q : Changes). Leads q x z) (sym h) l
 
+-- the change of an input that begins from no points
+pub begins_by : (set : DataSet) (older : Changes) (next : InputChange) → Starts older next → Leads older empty set → ChangeKept empty set set next
+begins_by set older next s h = record { older = starts_older empty set older next.older s.older_is h; newer = subst (λ (ds : List (Arc Changes Global)). LeadsThrough (map arc_value ds) set set) (sym s.newer_is) refl }
+
 -- a change that starts from one that leads all the way
 pub carries_by : (change next : InputChange) (delta : Changes) → Starts delta next → ((x y z : DataSet) → ChangeKept x y z change → Leads delta x z) → Carries change next
 carries_by change next delta s h x y z k = record { older = starts_older x z delta next.older s.older_is (h x y z k); newer = subst (λ (ds : List (Arc Changes Global)). LeadsThrough (map arc_value ds) z z) (sym s.newer_is) refl }

@@ -1,16 +1,12 @@
 -- What the calls make of a production's parts.
 use Rattle.std.specs.Prelude.{◌≡◌, ◌≢◌, ◌≤◌, ◌<◌, ◌+◌, ℕ, true, false, List, length, map, Option, Some, None, slice_get, slice_index_or, vec_capacity, ⊤}
 use Rattle.std.specs.FinMap.{empty}
-use Rattle.std.specs.Option.{IsSomeAnd}
 use Rattle.std.specs.Arc.{arc_value}
 use Rattle.std.specs.declared.sync.Arc.{Arc}
 use Rattle.std.specs.declared.alloc.Global.{Global}
 use Rattle.data_model.specs.Deltas.{Leads}
 use Rattle.point_sets.specs.DataSets.{DataSet}
 use Rattle.point_sets.specs.Changes.{Changes}
-use Rattle.point_sets.specs.DataSets.{key_of}
-use Rattle.point_sets.specs.declared.point.Point.{Point}
-use Rattle.point_sets.specs.declared.delta.Change.{Change}
 use Rattle.point_sets.specs.declared.revision.Revision.{Revision}
 use Rattle.checked_trees.specs.declared.tree.Source.{Source}
 use Rattle.checked_trees.specs.declared.tree.Source.TheVariants.{Input, Result as ResultOf}
@@ -65,7 +61,7 @@ pub record IsPrepared (changes : List InputChange) (slot : Slot) : Type 0 where
   pub waits : slot.stage ≡ Waiting
   pub news : AreFirstNews changes slot.news.items slot.sources
 
--- the slot of a new production: its node stands for empty inputs
+-- the slot of a statement as its script's first round begins: its node stands for empty inputs
 pub record IsFirstSlot (c : Script) (i : ℕ) (slot : Slot) : Type 0 where
   pub sources : slot.sources ≡ sources_of c i
   pub stamp : slot.stamp ≡ 0
@@ -122,9 +118,3 @@ EndedSo old n GivenDropped new = new ≡ seen_with old n (Dropped (state_in old)
 
 abbrev pub closed_counts : Counts → Counts
 closed_counts k = record k { running = false; aside = 0 }
-
--- the change by which a point comes
-pub record IsComing (point : Arc Point Global) (change : Change) : Type 0 where
-  pub key : change.key ≡ key_of point
-  pub old : change.old ≡ None
-  pub new : IsSomeAnd change.new (λ p. arc_value p ≡ arc_value point)

@@ -7,8 +7,7 @@ ghost use Rattle.revision_judge.specs.Shares.{IsShare, AreShares};
 ghost use Rattle.round_core.specs.Inputs.{ChangeKept, InputsKept, AreEmpty, Carries, Starts, AllCarry, AllBegin, AllClosed, HasInput, IsNext, AreNexts};
 
 use crate::runs::Runs;
-use crate::whole::all_of;
-use point_sets::{Delta, PointSet, compose};
+use point_sets::{Delta, PointSet, all_of, compose};
 use revision_judge::Share;
 use sqlite_items::Items;
 use std::alloc::{AllocError, Global};

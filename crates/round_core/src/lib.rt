@@ -19,7 +19,6 @@ pub mod production;
 mod runs;
 mod slot;
 pub mod stops;
-mod whole;
 
 pub use law::every_production_stands;
 pub use limits::{ENTRY_LIMIT, FIELD_LIMIT, Full, Limits, SCRIPT_LIMIT};

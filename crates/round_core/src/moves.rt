@@ -119,7 +119,7 @@ fn push_pages(room: &mut Vec<Pages>, pages: Option<Pages>)
     }
 }
 
-/// The slots of a new production.
+/// The slots of a script as its first round begins: no statement has worked yet.
 pub fn first_slots(alloc: Global, script: &CheckedScript) -> Result<Vec<Slot>, AllocError>
     ensures many { IfOk result (λ slots. length slots.items ≡ length script.now.statements) }
     ensures each { IfOk result (λ slots. EachSlot (IsFirstSlot script.now) slots.items) }

@@ -13,9 +13,9 @@ use Rattle.operator_meaning.proofs.EmptyLemmas.{script_wrong-empty}
 use Rattle.round_journal.specs.declared.entry.Entry.{Entry}
 use Rattle.round_journal.specs.declared.entry.What.{What}
 use Rattle.round_journal.specs.declared.entry.What.TheVariants.{Judged, Published}
-use Rattle.round_journal.specs.Journals.{State, Numbered, after, after_what, state_of, inputs, old_inputs, MayCome, Legal}
+use Rattle.round_journal.specs.Journals.{State, Numbered, after, after_what, state_of, inputs, old_inputs, MayCome, Legal, IsOfProduction}
 use Rattle.round_journal.specs.Ends.{HasSet}
-use Rattle.round_journal.specs.Counts.{PrefixesInOrder, IsOfProduction, ScriptsInOrder}
+use Rattle.round_journal.specs.Counts.{PrefixesInOrder, ScriptsInOrder}
 use Rattle.round_journal.proofs.JournalLemmas.{of_legal}
 use Rattle.round_journal.proofs.InputLemmas.{inputs-after_what, PrefixesInOrder-keeps, PrefixesInOrder-legal}
 use Rattle.round_journal.proofs.ProductionLemmas.{ScriptsAgree-legal, ScriptsInOrder-legal}

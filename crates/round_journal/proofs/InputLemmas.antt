@@ -18,8 +18,8 @@ use Rattle.round_journal.specs.declared.entry.What.{What}
 use Rattle.round_journal.specs.declared.entry.What.TheVariants.{Judged, Opened, Published}
 use Rattle.round_journal.specs.declared.verdict.Verdict.{Verdict}
 use Rattle.round_journal.specs.declared.verdict.Verdict.TheVariants.{Accepted, Refused}
-use Rattle.round_journal.specs.Journals.{State, Named, start, accepted_after, after, after_what, after_all, state_of, inputs, inputs_now, verdict_for, verdict_on, MayCome, Legal}
-use Rattle.round_journal.specs.Counts.{PrefixesInOrder, IsOfProduction}
+use Rattle.round_journal.specs.Journals.{State, Named, start, accepted_after, after, after_what, after_all, state_of, inputs, inputs_now, verdict_for, verdict_on, MayCome, Legal, IsOfProduction}
+use Rattle.round_journal.specs.Counts.{PrefixesInOrder}
 use Rattle.round_journal.proofs.JournalLemmas.{after_all-append, of_legal}
 
 accepted_after-long : (rs : List Revision) (r : Revision) (v : Verdict) → length rs ≤ length (accepted_after rs r v)

@@ -6,8 +6,8 @@ use Rattle.checked_trees.specs.Scripts.{Script, IsChecked}
 use Rattle.round_journal.specs.declared.entry.Entry.{Entry}
 use Rattle.round_journal.specs.declared.entry.What.{What}
 use Rattle.round_journal.specs.declared.entry.What.TheVariants.{Rescripted, Opened, Published}
-use Rattle.round_journal.specs.Journals.{State, Named, start, after_what, state_of, MayCome, Legal}
-use Rattle.round_journal.specs.Counts.{IsOfProduction, ScriptsAgree, ScriptsInOrder}
+use Rattle.round_journal.specs.Journals.{State, Named, start, after_what, state_of, MayCome, Legal, IsOfProduction}
+use Rattle.round_journal.specs.Counts.{ScriptsAgree, ScriptsInOrder}
 use Rattle.round_journal.proofs.JournalLemmas.{of_legal}
 use Rattle.round_journal.proofs.InputLemmas.{first-after_what}
 

@@ -13,8 +13,8 @@ use Rattle.std.specs.declared.alloc.Global.{Global}
 use Rattle.std.specs.declared.sync.Arc.{Arc}
 use Rattle.round_journal.specs.declared.entry.What.TheVariants.{Judged, Rescripted}
 use Rattle.round_journal.specs.declared.verdict.Verdict.{Verdict}
-use Rattle.round_journal.specs.Journals.{State, Numbered, Status, Waiting, Out, after_what, new_inputs, IsThere, Ready, NoneReady, Over}
-use Rattle.round_journal.specs.Counts.{PrefixesInOrder, IsOfProduction}
+use Rattle.round_journal.specs.Journals.{State, Numbered, Status, Waiting, Out, after_what, new_inputs, IsThere, Ready, NoneReady, Over, IsOfProduction}
+use Rattle.round_journal.specs.Counts.{PrefixesInOrder}
 use Rattle.round_journal.proofs.InputLemmas.{inputs-after_what, inputs-long}
 use Rattle.round_journal.proofs.ScriptLemmas.{sources_of-all, names_of-typed, has_set}
 

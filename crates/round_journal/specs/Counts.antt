@@ -1,10 +1,9 @@
 -- What journals count (docs/language.md, "Rounds").
 use Rattle.std.specs.Prelude.{◌≡◌, ◌≤◌, ◌<◌, ◌+◌, ℕ, suc, zero, true, length, ⊤}
 use Rattle.std.specs.List.{All}
-use Rattle.checked_trees.specs.Scripts.{Script, IsChecked}
 use Rattle.round_journal.specs.declared.entry.What.{What}
 use Rattle.round_journal.specs.declared.entry.What.TheVariants.{Judged, Rescripted, Opened, Claimed, Returned, GaveUp, Published, Failed, Dropped}
-use Rattle.round_journal.specs.Journals.{State, Status, Waiting, Out, Back, Spoiled, number as number_of}
+use Rattle.round_journal.specs.Journals.{State, Status, Waiting, Out, Back, Spoiled, IsOfProduction, number as number_of}
 
 -- the prefixes are of accepted revisions, and the last release's is not above the round's
 pub record PrefixesInOrder (s : State) : Type 0 where
@@ -12,12 +11,7 @@ pub record PrefixesInOrder (s : State) : Type 0 where
   pub latest_below : s.latest.prefix ≤ s.to
   pub to_below : s.to ≤ length s.accepted
 
--- the scripts of a production are checked, and have the inputs of the first one
-pub record IsOfProduction (s : State) (c : Script) : Type 0 where
-  pub checked : IsChecked c
-  pub same_inputs : c.inputs ≡ s.first.inputs
-
--- all of them: the newest one, the round's, and those of the releases
+-- all scripts that a journal names are of the production: the newest one, the round's, and those of the releases
 pub record ScriptsAgree (s : State) : Type 0 where
   pub newest : IsOfProduction s s.newest.script
   pub round : IsOfProduction s s.round.script

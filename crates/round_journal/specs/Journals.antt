@@ -202,8 +202,8 @@ pub record MayOpen (s : State) (to : ℕ) : Type 0 where
   pub some : (0 < to) ⊎ (0 < s.newest.number)
   pub news : (s.to < to) ⊎ ((s.dropped ≡ true) ⊎ (s.round.number < s.newest.number))
 
--- a script may replace another: it is checked, and has the inputs of the first one
-pub record MayReplace (s : State) (c : Script) : Type 0 where
+-- a script of the production: it is checked, and has the inputs of the first one
+pub record IsOfProduction (s : State) (c : Script) : Type 0 where
   pub checked : IsChecked c
   pub same_inputs : c.inputs ≡ s.first.inputs
 
@@ -216,7 +216,7 @@ pub record IsOutBy (s : State) (n i : ℕ) : Type 0 where
 -- which entry of caller n may come next
 abbrev pub MayCome : State → ℕ → What → Type 0
 MayCome s n (Judged r v) = ¬ (Over s) × (v ≡ verdict_on s r)
-MayCome s n (Rescripted c) = ¬ (Over s) × MayReplace s (arc_value c)
+MayCome s n (Rescripted c) = ¬ (Over s) × IsOfProduction s (arc_value c)
 MayCome s n (Opened to) = MayOpen s to
 MayCome s n (Claimed i) = (s.running ≡ true) × FirstReady s s.round.script.order i
 MayCome s n (Returned i) = IsOutBy s n i

@@ -17,11 +17,11 @@ ghost use Rattle.round_journal.specs.declared.entry.What.{What};
 ghost use Rattle.round_journal.specs.declared.entry.What.TheVariants.{Judged, Rescripted, Published, Failed, Dropped};
 ghost use Rattle.round_journal.specs.declared.verdict.Verdict.{Verdict};
 ghost use Rattle.round_journal.specs.declared.verdict.ScriptFault.{ScriptFault};
-ghost use Rattle.round_journal.specs.Journals.{State, Named, Waiting, Back, after, after_what, after_all, state_of, number, inputs, old_inputs, new_inputs, inputs_now, round_need, aside, Ready, Over, NoneReady, verdict_on, round_wrong, fault_said, IsOutBy, MayCome, LegalFrom, Legal};
+ghost use Rattle.round_journal.specs.Journals.{State, Named, Waiting, Back, after, after_what, after_all, state_of, number, inputs, old_inputs, new_inputs, inputs_now, round_need, aside, Ready, Over, NoneReady, verdict_on, round_wrong, fault_said, IsOutBy, MayCome, LegalFrom, Legal, IsOfProduction};
 ghost use Rattle.round_journal.specs.Stands.{WorkStands, DoneStands, IsDoneOf, AllKeep};
 ghost use Rattle.round_journal.specs.Releases.{IsReleaseOf, IsRelease, released, pages_on};
 ghost use Rattle.round_journal.specs.Ends.{NoneSpoiled, OverUnspoiled, HasSet, FirstFault, NoFault, ArePoints};
-ghost use Rattle.round_journal.specs.Counts.{PrefixesInOrder, ScriptsAgree, ScriptsInOrder, IsOfProduction, CountsWithin, RoundsInOrder, GoesForward, entries_below, IsOfStatement, IsNoRelease};
+ghost use Rattle.round_journal.specs.Counts.{PrefixesInOrder, ScriptsAgree, ScriptsInOrder, CountsWithin, RoundsInOrder, GoesForward, entries_below, IsOfStatement, IsNoRelease};
 ghost use Rattle.round_journal.specs.Words.{accepted_in, fields_in, scripts_in, opened_in, published_in, last_or, said_by};
 
 /// A journal that goes on says what its further entries make of what it said, and is legal where
@@ -199,7 +199,7 @@ pub fn room_is_set_aside()
 /// makes another release of its number.
 pub fn releases_stay()
     ensures made { (s : State) (n : ℕ) (r : Release) → r.number ≡ number s + 1 → r.prefix ≡ s.to →
-        r.script ≡ s.round.number → r.pages ≡ pages_on s.round.script (new_inputs s) → s.to ≤ length s.accepted →
+        r.script ≡ s.round.number → r.pages ≡ pages_on s.round.script (new_inputs s) →
         IsRelease (after_what s n (Published s.to)) r }
     ensures names { (s : State) (n : ℕ) (w : What) → IsNoRelease w →
         ((after_what s n w).latest ≡ s.latest) × ((after_what s n w).earlier ≡ s.earlier) }

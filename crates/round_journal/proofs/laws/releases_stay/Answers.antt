@@ -2,7 +2,7 @@ use Rattle.round_journal.proofs.ReleaseLemmas.{IsRelease-made, latest-stays, IsR
 use Rattle.round_journal.proofs.laws.releases_stay.Goals as goal
 
 pub returns-clause-made : goal.returns-clause-made
-returns-clause-made c = λ s n r number prefix script pages _. IsRelease-made s n r number prefix script pages
+returns-clause-made c = λ s n r number prefix script pages. IsRelease-made s n r number prefix script pages
 
 pub returns-clause-names : goal.returns-clause-names
 returns-clause-names c = latest-stays

@@ -6,7 +6,7 @@ use Rattle.round_core.specs.declared.inputs.InputChange.{InputChange}
 use Rattle.round_core.specs.Inputs.{ChangeKept}
 use Rattle.round_core.proofs.Lists.{each_push_one, get_or_any}
 use Rattle.round_core.proofs.NextLemmas.{at_input}
-use Rattle.round_core.proofs.WholeLemmas.{begins_by}
+use Rattle.round_core.proofs.StepLemmas.{begins_by}
 use Rattle.round_core.proofs.inputs.Inputs.from_nothing.Goals as goal
 
 pub loop-set-preserved : goal.loop-set-preserved

@@ -2,13 +2,15 @@
 ghost use Rattle.std.specs.Prelude.{IfOk};
 ghost use Rattle.std.specs.FinMap as finmap;
 ghost use Rattle.data_model.specs.Deltas.{Leads};
-ghost use Rattle.round_core.specs.Steps.{IsComing};
+ghost use Rattle.point_sets.specs.Changes.{IsComing};
 
-use point_sets::{Change, Delta, Point, PointSet};
+use crate::delta::{Change, Delta};
+use crate::point::Point;
+use crate::point_set::PointSet;
 use std::alloc::{AllocError, Global};
 use std::sync::Arc;
 
-/// The change that leads from no points to these, which it shares.
+/// The delta that leads from no points to these, which it shares. It takes time and memory for each point.
 pub fn all_of(alloc: Global, set: &PointSet) -> Result<Delta, AllocError>
     ensures { IfOk result (λ delta. Leads delta finmap.empty set.now) }
 {

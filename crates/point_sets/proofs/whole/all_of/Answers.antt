@@ -8,8 +8,8 @@ use Rattle.std.specs.FinMap.{empty}
 use Rattle.data_model.specs.Deltas.{Leads}
 use Rattle.point_sets.specs.DataSets.{entry_of}
 use Rattle.point_sets.specs.Changes.{Changes}
-use Rattle.round_core.proofs.WholeLemmas.{Come, come-none, come-more, are_changes-come, leads-come}
-use Rattle.round_core.proofs.whole.all_of.Goals as goal
+use Rattle.point_sets.proofs.WholeLemmas.{Come, come-none, come-more, are_changes-come, leads-come}
+use Rattle.point_sets.proofs.whole.all_of.Goals as goal
 
 pub loop-point-init : goal.loop-point-init
 loop-point-init c = subst (λ (cs : List Change). Come [] cs) (sym c.new-changes.ensures.items) come-none

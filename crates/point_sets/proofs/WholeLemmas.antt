@@ -1,4 +1,4 @@
--- The change that makes a data set from nothing.
+-- The delta that makes a data set from nothing.
 use Rattle.std.proofs.Common.{◌≡◌, List, [], ◌∷◌, ◌++◌, map, Option, Some, None, sym, ◌∙◌, ap, refl, subst}
 use Rattle.std.specs.Prelude.{true, false, ◌&&◌, cond}
 use Rattle.std.specs.Option.{option_map, IsSomeAnd}
@@ -19,13 +19,9 @@ use Rattle.vtl_values.specs.declared.value.Value.{Value}
 use Rattle.vtl_values.specs.Order.{key_cmp}
 use Rattle.vtl_values.proofs.Values.{key_cmp-IsTotalOrder, key_cmp-IsAntisymmetric}
 use Rattle.point_sets.specs.DataSets.{DataSet, HasKey, entry_of, key_of, rest_of}
-use Rattle.point_sets.specs.Changes.{Changes, values_of, change_entry, of_changes, AreChanges, IsChange}
+use Rattle.point_sets.specs.Changes.{values_of, change_entry, of_changes, AreChanges, IsChange, IsComing}
 use Rattle.point_sets.specs.declared.point.Point.{Point}
 use Rattle.point_sets.specs.declared.delta.Change.{Change}
-use Rattle.round_core.specs.declared.inputs.InputChange.{InputChange}
-use Rattle.round_core.specs.Inputs.{Starts, LeadsThrough, ChangeKept}
-use Rattle.round_core.specs.Steps.{IsComing}
-use Rattle.round_core.proofs.StepLemmas.{starts_older}
 
 -- an entry whose value is seen as g of it
 module _ {K X Y : Type 0} (R : K → K → Ordering) (g : X → Y) where
@@ -102,7 +98,3 @@ leads-come points set changes all h = Leads-by_key key_cmp-IsTotalOrder key_cmp-
     ∙ find-seen key_cmp comes q (entries set)
     ∙ ap (option_map comes) (sym (get-entries set q)) in
     rw (there, get-empty key_cmp q) (leads_at_comes (get set q)))
-
--- the change of an input that begins from no points
-pub begins_by : (set : DataSet) (older : Changes) (next : InputChange) → Starts older next → Leads older empty set → ChangeKept empty set set next
-begins_by set older next s h = record { older = starts_older empty set older next.older s.older_is h; newer = subst (λ (ds : List (Arc Changes Global)). LeadsThrough (map arc_value ds) set set) (sym s.newer_is) refl }
