@@ -26,7 +26,7 @@ use Rattle.operator_faults.specs.Names.{same_word}
 use Rattle.operator_faults.specs.Calls.{operator_of}
 use Rattle.operator_faults.specs.Outlines.{outlined}
 use Rattle.operator_faults.specs.Recursions.{number_of}
-use Rattle.operator_faults.proofs.CycleLemmas.{tells, apart}
+use Rattle.shortest_cycles.proofs.CycleLemmas.{tells, apart}
 use Rattle.tree_copies.specs.Made.{Names, Calls, made, same_name}
 use Rattle.tree_copies.proofs.Fused.{fused}
 use Rattle.replaced_calls.specs.Replacing.{bound, opened, sorted_call}

@@ -3,7 +3,7 @@ use Rattle.std.specs.Prelude.{◌≡◌, Option, Some, None, Result, Ok, Err, �
 use Rattle.vtl_syntax.specs.declared.script.Script.{Script}
 use Rattle.operator_faults.specs.declared.fault.PlacedFault.{PlacedFault}
 use Rattle.operator_faults.specs.Faults.{first_fault as first_in_text}
-use Rattle.operator_faults.specs.Firsts.{or_else}
+use Rattle.shortest_cycles.specs.Firsts.{or_else}
 use Rattle.replaced_calls.specs.Scripts.{written_out}
 use Rattle.written_sizes.specs.SizeFaults.{size_fault}
 use Rattle.defined_operators.specs.declared.expand.ExpandStop.{ExpandStop}

@@ -10,7 +10,7 @@ use Rattle.vtl_syntax.specs.declared.operator.DefinedOperator.{DefinedOperator}
 use Rattle.operator_faults.specs.declared.outline.Site.{Site}
 use Rattle.operator_faults.specs.declared.outline.CallSite.{CallSite}
 use Rattle.operator_faults.specs.declared.outline.Outline.{Outline, out-Outline, fold_out-Outline}
-use Rattle.operator_faults.specs.Firsts.{or_else}
+use Rattle.shortest_cycles.specs.Firsts.{or_else}
 use Rattle.operator_faults.specs.Calls.{own_call, sites, sites_step, all_sites}
 use Rattle.operator_faults.specs.Bodies.{own_name, is_inside, data_parts, data_names, data_names_step}
 use Rattle.operator_faults.specs.Recursions.{put_site, put_sites, put_call}

@@ -1,5 +1,2 @@
-pub mod CycleLemmas
-pub mod CyclesFound
 pub mod Parts
-pub mod Rows
 pub mod Finds

@@ -11,7 +11,7 @@ use Rattle.operator_faults.specs.declared.outline.Outline.{Outline, fold-Outline
 use Rattle.operator_faults.specs.declared.outline.Outline.TheOpen.{Outline-F}
 use Rattle.operator_faults.specs.declared.fault.PlacedFault.{PlacedFault}
 use Rattle.operator_faults.specs.declared.fault.OperatorFault.TheVariants as fault
-use Rattle.operator_faults.specs.Firsts.{or_else}
+use Rattle.shortest_cycles.specs.Firsts.{or_else}
 use Rattle.operator_faults.specs.Names.{is_named}
 
 abbrev pub own_name : What → Option Site

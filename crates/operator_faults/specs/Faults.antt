@@ -5,7 +5,7 @@ use Rattle.vtl_syntax.specs.declared.script.Script.{Script}
 use Rattle.operator_faults.specs.declared.sketch.Sketch.{Sketch}
 use Rattle.operator_faults.specs.declared.calls.CallFault.TheVariants.{Unknown, Count, Sort}
 use Rattle.operator_faults.specs.declared.fault.PlacedFault.{PlacedFault}
-use Rattle.operator_faults.specs.Firsts.{or_else}
+use Rattle.shortest_cycles.specs.Firsts.{or_else}
 use Rattle.operator_faults.specs.Names.{defined_twice, parameter_twice}
 use Rattle.operator_faults.specs.Calls.{wrong_in_script}
 use Rattle.operator_faults.specs.Bodies.{free_in_bodies}

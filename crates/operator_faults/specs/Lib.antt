@@ -1,9 +1,7 @@
 pub mod Outlines
-pub mod Firsts
 pub mod Names
 pub mod Calls
 pub mod Bodies
-pub mod Cycles
 pub mod Recursions
 pub mod Sketches
 pub mod Faults

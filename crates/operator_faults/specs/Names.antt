@@ -7,7 +7,7 @@ use Rattle.vtl_syntax.specs.declared.operator.DefinedOperator.{DefinedOperator}
 use Rattle.vtl_syntax.specs.declared.operator.Param.{Param}
 use Rattle.operator_faults.specs.declared.fault.PlacedFault.{PlacedFault}
 use Rattle.operator_faults.specs.declared.fault.OperatorFault.TheVariants as fault
-use Rattle.operator_faults.specs.Firsts.{first_some}
+use Rattle.shortest_cycles.specs.Firsts.{first_some}
 
 -- whether the two words are one
 abbrev pub same_word : List ℕ → List ℕ → Bool

@@ -1,5 +1,5 @@
 -- Operators whose bodies reach their own calls.
-use Rattle.std.specs.Prelude.{ℕ, List, [], ◌∷◌, ◌++◌, Option, Some, None, map, fold, position, slice_get, if◌then◌else◌}
+use Rattle.std.specs.Prelude.{ℕ, List, [], ◌∷◌, Option, Some, None, map, fold, position, slice_get}
 use Rattle.std.specs.List.{flat_map}
 use Rattle.std.specs.Option.{option_map, option_and_then, option_to_list}
 use Rattle.vtl_syntax.specs.declared.operator.DefinedOperator.{DefinedOperator}
@@ -10,14 +10,12 @@ use Rattle.operator_faults.specs.declared.fault.PlacedFault.{PlacedFault}
 use Rattle.operator_faults.specs.declared.fault.OperatorFault.TheVariants as fault
 use Rattle.operator_faults.specs.Names.{same_word}
 use Rattle.operator_faults.specs.Calls.{sites, own_call}
-use Rattle.operator_faults.specs.Cycles.{Graph, contains, first_cycle}
+use Rattle.shortest_cycles.specs.Paths.{Graph, put_once}
+use Rattle.shortest_cycles.specs.Cycles.{first_cycle}
 
 -- the number of the first operator of that name
 abbrev pub number_of : List DefinedOperator → List ℕ → Option ℕ
 number_of operators w = position (λ (o : DefinedOperator). same_word o.name w) operators
-
-abbrev pub put_once : List ℕ → ℕ → List ℕ
-put_once ns n = if contains ns n then ns else ns ++ n ∷ []
 
 abbrev put_found : List ℕ → Option ℕ → List ℕ
 put_found ns None = ns

@@ -1,7 +1,7 @@
 //! What is wrong with the defined operators of a script, as far as its text shows it before any call is replaced.
 //!
 //! An expression is seen as its outline: names, calls of defined operators, and what stands round them. The faults
-//! speak of outlines alone. It stands on `vtl_syntax`.
+//! speak of outlines alone. It stands on `vtl_syntax` and `shortest_cycles`.
 #![tactic(auto)]
 
 mod bodies;
@@ -9,7 +9,6 @@ pub mod calls;
 pub mod fault;
 pub mod faults;
 pub mod graph;
-pub mod laws;
 mod names;
 pub mod outline;
 pub mod sketch;

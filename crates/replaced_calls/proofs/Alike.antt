@@ -17,7 +17,7 @@ use Rattle.operator_faults.specs.declared.outline.What.TheVariants as what
 use Rattle.operator_faults.specs.declared.outline.Outline.{Outline, fold-Outline, fold-roll-Outline}
 use Rattle.operator_faults.specs.declared.outline.Outline.TheOpen.{Outline-F}
 use Rattle.operator_faults.specs.Outlines.{outline, is_name, has_name, it, joined_if, layer_parts, layer_what, clause_step, expr_step, groups_step, item_step, operand_step, range_step, outlined, clause_outlined, groups_outlined, item_outlined, operand_outlined, range_outlined}
-use Rattle.operator_faults.proofs.CycleLemmas.{apart}
+use Rattle.shortest_cycles.proofs.CycleLemmas.{apart}
 use Rattle.vtl_syntax.proofs.Maps.{maps-Join}
 use Rattle.tree_copies.specs.Made.{Names, Calls, made_step, made, clause_made, groups_made, item_made, operand_made, range_made}
 use Rattle.tree_copies.proofs.Layers.{Family, Maps, over-Clause, over-Expr, over-Groups, over-Item, over-JoinOperand, over-SubstrRange}

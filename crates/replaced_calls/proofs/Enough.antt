@@ -14,15 +14,17 @@ use Rattle.operator_faults.specs.declared.outline.CallSite.{CallSite}
 use Rattle.operator_faults.specs.declared.outline.Outline.{Outline}
 use Rattle.operator_faults.specs.Names.{same_word}
 use Rattle.operator_faults.specs.Calls.{operator_of, sites}
-use Rattle.operator_faults.specs.Cycles.{contains, called_by}
+use Rattle.shortest_cycles.specs.Paths.{contains, targets_of}
 use Rattle.operator_faults.specs.Outlines.{outlined}
-use Rattle.operator_faults.specs.Recursions.{number_of, put_once, put_site, put_sites}
+use Rattle.operator_faults.specs.Recursions.{number_of, put_site, put_sites}
+use Rattle.shortest_cycles.specs.Paths.{put_once}
 use Rattle.operator_faults.specs.Sketches.{of_operator}
-use Rattle.operator_faults.proofs.CycleLemmas.{tells, apart, contains-here, contains-later}
+use Rattle.shortest_cycles.proofs.CycleLemmas.{tells, apart, contains-here, contains-later}
 use Rattle.replaced_calls.specs.Replacing.{bound, opened, sorted}
 use Rattle.replaced_calls.specs.Scripts.{sorted_operator, sorted_operators}
 use Rattle.replaced_calls.specs.Laws.{graph, OperatorsEnd}
-use Rattle.replaced_calls.proofs.Lines.{IsLine, lines_end}
+use Rattle.shortest_cycles.proofs.Lines.{IsLine, lines_end}
+use Rattle.shortest_cycles.proofs.FirstCycles.{finds_none}
 use Rattle.replaced_calls.proofs.Only.{AllSites, HasOnly, has_only, alike_only}
 use Rattle.replaced_calls.proofs.Sorted.{sorted_has_only}
 use Rattle.replaced_calls.proofs.Written.{opened_by, opened-none}
@@ -77,12 +79,12 @@ pub sites_called : (os : List DefinedOperator) (cs : List CallSite) (ns : List �
 sites_called os [] ns = tt
 sites_called os (c ∷ cs) ns = (site_called (number_of os c.name) ns (put_sites os ns (c ∷ cs)) (λ k h. keeps_sites os cs (put_site os ns c) k h), sites_called os cs (put_site os ns c))
 
-pub called-is : (os : List DefinedOperator) (i : ℕ) (o : DefinedOperator) → slice_get os i ≡ Some o → called_by (graph os) i ≡ put_sites os [] (sites (outlined o.body))
+pub called-is : (os : List DefinedOperator) (i : ℕ) (o : DefinedOperator) → slice_get os i ≡ Some o → targets_of (graph os) i ≡ put_sites os [] (sites (outlined o.body))
 called-is os i o at =
     let numbers : Outline → List ℕ = λ b. put_sites os [] (sites b) in
     ap (λ (r : Option (List ℕ)). unwrap_or r []) (slice_get-map numbers (map of_operator os) i ∙ ap (option_map numbers) (slice_get-map of_operator os i ∙ ap (option_map of_operator) at))
 
-body_called : (os : List DefinedOperator) (i : ℕ) (o : DefinedOperator) → slice_get os i ≡ Some o → HasOnly (called os (called_by (graph os) i)) (sorted os o.body)
+body_called : (os : List DefinedOperator) (i : ℕ) (o : DefinedOperator) → slice_get os i ≡ Some o → HasOnly (called os (targets_of (graph os) i)) (sorted os o.body)
 body_called os i o at =
     let ns = put_sites os [] (sites (outlined o.body)) in
     subst (λ (ks : List ℕ). HasOnly (called os ks) (sorted os o.body)) (sym (called-is os i o at))
@@ -144,7 +146,7 @@ levels os (suc n) w as' p ends =
     (λ o found.
     let f = found_number os w o found in
     let is : operator_of qs w ≡ Some (sorted_operator os o) = sorted-found os os w ∙ ap (option_map (sorted_operator os)) found in
-    let ns = called_by (graph os) f.number in
+    let ns = targets_of (graph os) f.number in
     ap (opened_by qs (suc n) w as' p) is
     ∙ alike_only (called os ns) (bound o.params as') (opened qs (suc n)) (opened qs n)
     (λ v bs q h. levels os n v bs q (λ k ks num long line.
@@ -154,4 +156,4 @@ levels os (suc n) w as' p ends =
     ∙ sym (ap (opened_by qs n w as' p) is))
 
 pub operators_end : OperatorsEnd
-operators_end os none w as' p = levels os (length os) w as' p (λ i ks num long line. lines_end (graph os) none i ks line (long ∙ sym (graph-length os)))
+operators_end os none w as' p = levels os (length os) w as' p (λ i ks num long line. lines_end (graph os) (finds_none (graph os) none) i ks line (long ∙ sym (graph-length os)))

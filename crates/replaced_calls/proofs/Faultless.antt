@@ -9,10 +9,10 @@ use Rattle.operator_faults.specs.declared.calls.CallFault.TheVariants.{Unknown, 
 use Rattle.operator_faults.specs.declared.fault.PlacedFault.{PlacedFault}
 use Rattle.operator_faults.specs.declared.fault.OperatorFault.TheVariants as fault
 use Rattle.operator_faults.specs.declared.outline.CallSite.{CallSite}
-use Rattle.operator_faults.specs.Firsts.{or_else, first_some}
+use Rattle.shortest_cycles.specs.Firsts.{or_else, first_some}
 use Rattle.operator_faults.specs.Calls.{operator_of, sites, all_sites, is_wrong, earlier, first_call, told as told_call, wrong_in_script}
 use Rattle.operator_faults.specs.Bodies.{free_in_bodies}
-use Rattle.operator_faults.specs.Cycles.{count_from, comes_to, between, cycle_of, first_cycle}
+use Rattle.shortest_cycles.specs.Cycles.{count_from, comes_to, between, cycle_of, first_cycle}
 use Rattle.operator_faults.specs.Faults.{of_names, of_calls, first_fault}
 use Rattle.operator_faults.specs.Recursions.{recursion, names_of, told_at}
 use Rattle.operator_faults.specs.Sketches.{of_operator, sketch_of}

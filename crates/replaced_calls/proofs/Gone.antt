@@ -9,16 +9,17 @@ use Rattle.vtl_syntax.specs.declared.operator.DefinedOperator.{DefinedOperator}
 use Rattle.operator_faults.specs.declared.calls.CallFault.TheVariants.{Unknown}
 use Rattle.operator_faults.specs.declared.outline.CallSite.{CallSite}
 use Rattle.operator_faults.specs.Calls.{operator_of, sites, is_wrong, is_wrong_for}
-use Rattle.operator_faults.specs.Cycles.{called_by}
+use Rattle.shortest_cycles.specs.Paths.{targets_of}
 use Rattle.operator_faults.specs.Outlines.{outlined}
 use Rattle.operator_faults.specs.Recursions.{put_sites}
-use Rattle.operator_faults.proofs.CycleLemmas.{apart}
+use Rattle.shortest_cycles.proofs.CycleLemmas.{apart}
 use Rattle.tree_copies.specs.Made.{Names, Calls, made, same_name}
 use Rattle.tree_copies.proofs.Fused.{fused}
 use Rattle.replaced_calls.specs.Replacing.{bound, opened, sorted}
 use Rattle.replaced_calls.specs.Scripts.{sorted_operator, sorted_operators}
 use Rattle.replaced_calls.specs.Laws.{graph, AllKnown, NoneLeft}
-use Rattle.replaced_calls.proofs.Lines.{lines_end}
+use Rattle.shortest_cycles.proofs.Lines.{lines_end}
+use Rattle.shortest_cycles.proofs.FirstCycles.{finds_none}
 use Rattle.replaced_calls.proofs.Only.{AllSites, HasOnly, has_only, left_out, leaves_out, only_made, only-made}
 use Rattle.replaced_calls.proofs.Sorted.{sorted_has_only}
 use Rattle.replaced_calls.proofs.Written.{opened_by, makes-name, bound-map}
@@ -81,7 +82,7 @@ only_gone c call name name' open' names gone e h =
 abbrev BodiesKnown : List DefinedOperator → Type 0
 BodiesKnown os = (w : List ℕ) (o : DefinedOperator) → operator_of os w ≡ Some o → AllKnown os o.body
 
-body_only : (os : List DefinedOperator) (i : ℕ) (o : DefinedOperator) → slice_get os i ≡ Some o → AllKnown os o.body → HasOnly (λ w. called os (called_by (graph os) i) w && known os w) (sorted os o.body)
+body_only : (os : List DefinedOperator) (i : ℕ) (o : DefinedOperator) → slice_get os i ≡ Some o → AllKnown os o.body → HasOnly (λ w. called os (targets_of (graph os) i) w && known os w) (sorted os o.body)
 body_only os i o at all =
     let ns = put_sites os [] (sites (outlined o.body)) in
     subst (λ (ks : List ℕ). HasOnly (λ w. called os ks w && known os w) (sorted os o.body)) (sym (called-is os i o at))
@@ -101,7 +102,7 @@ calls_gone os bodies call (suc n) w as' p ends is_known =
     let o = x.0 in
     let f = found_number os w o x.1 in
     let is : operator_of qs w ≡ Some (sorted_operator os o) = sorted-found os os w ∙ ap (option_map (sorted_operator os)) x.1 in
-    let ns = called_by (graph os) f.number in
+    let ns = targets_of (graph os) f.number in
     ap (λ (r : Option DefinedOperator). made same_name call (opened_by qs n w as' p r)) is
     ∙ only_gone (λ v. called os ns v && known os v) call (bound o.params as') (bound o.params (map (made same_name call) as')) (opened qs n)
     (λ v q. bound-map (made same_name call) o.params as' v q (makes-name same_name call v q))
@@ -116,5 +117,5 @@ calls_gone os bodies call (suc n) w as' p ends is_known =
 pub none_left : NoneLeft
 none_left os none bodies e all call =
     only_gone (known os) call same_name same_name (opened (sorted_operators os) (length os)) (makes-name same_name call)
-    (λ w as' p h. calls_gone os bodies call (length os) w as' p (λ i ks num long line. lines_end (graph os) none i ks line (long ∙ sym (graph-length os))) h)
+    (λ w as' p h. calls_gone os bodies call (length os) w as' p (λ i ks num long line. lines_end (graph os) (finds_none (graph os) none) i ks line (long ∙ sym (graph-length os))) h)
     (sorted os e) (sorted_has_only (known os) os e (has_only (known os) e (sites_known os (sites (outlined e)) all)))

@@ -4,7 +4,6 @@ pub mod Enough
 pub mod Faultless
 pub mod Fresh
 pub mod Gone
-pub mod Lines
 pub mod Only
 pub mod ScriptChains
 pub mod ScriptMaps

@@ -12,7 +12,7 @@ use Rattle.operator_faults.specs.declared.outline.Outline.{Outline, roll-Outline
 use Rattle.operator_faults.specs.declared.outline.Outline.TheOpen.{Outline-F}
 use Rattle.operator_faults.specs.Calls.{own_call, sites, sites_step}
 use Rattle.operator_faults.specs.Outlines.{outlined}
-use Rattle.operator_faults.proofs.CycleLemmas.{apart}
+use Rattle.shortest_cycles.proofs.CycleLemmas.{apart}
 use Rattle.tree_copies.specs.Made.{Names, Calls, made, same_name, same_call}
 use Rattle.tree_copies.proofs.Fused.{fused, stays}
 use Rattle.replaced_calls.proofs.Alike.{all_true, what_fits, fits_step, fits, made_alike}

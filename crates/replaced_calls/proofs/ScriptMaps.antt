@@ -13,7 +13,7 @@ use Rattle.vtl_syntax.specs.declared.script.Statement.{Statement}
 use Rattle.vtl_syntax.specs.declared.script.Script.{Script}
 use Rattle.operator_faults.specs.declared.outline.CallSite.{CallSite}
 use Rattle.operator_faults.specs.declared.outline.Outline.{Outline}
-use Rattle.operator_faults.specs.Firsts.{or_else}
+use Rattle.shortest_cycles.specs.Firsts.{or_else}
 use Rattle.operator_faults.specs.Calls.{sites, all_sites}
 use Rattle.operator_faults.specs.Outlines.{outlined}
 use Rattle.operator_faults.specs.Sketches.{of_statement, of_rule, of_condition, of_datapoint, of_hierarchy, of_ruleset, sketch_of}

@@ -5,7 +5,8 @@ use Rattle.vtl_syntax.specs.declared.expr.Expr.{Expr}
 use Rattle.vtl_syntax.specs.declared.operator.DefinedOperator.{DefinedOperator}
 use Rattle.operator_faults.specs.declared.calls.CallFault.TheVariants.{Unknown}
 use Rattle.operator_faults.specs.Calls.{operator_of, sites, is_wrong}
-use Rattle.operator_faults.specs.Cycles.{Graph, first_cycle}
+use Rattle.shortest_cycles.specs.Paths.{Graph}
+use Rattle.shortest_cycles.specs.Cycles.{first_cycle}
 use Rattle.operator_faults.specs.Outlines.{outlined}
 use Rattle.operator_faults.specs.Recursions.{graph_of}
 use Rattle.operator_faults.specs.Sketches.{of_operator}

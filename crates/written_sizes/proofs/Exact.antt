@@ -19,7 +19,7 @@ use Rattle.operator_faults.specs.declared.outline.What.TheVariants as what
 use Rattle.operator_faults.specs.declared.outline.Outline.{Outline, fold-roll-Outline}
 use Rattle.operator_faults.specs.declared.sketch.Sketch.{Sketch}
 use Rattle.operator_faults.specs.Calls.{is_before}
-use Rattle.operator_faults.specs.Firsts.{or_else}
+use Rattle.shortest_cycles.specs.Firsts.{or_else}
 use Rattle.operator_faults.specs.Outlines.{outline}
 use Rattle.operator_faults.specs.Sketches.{sketch_of}
 use Rattle.replaced_calls.specs.Scripts.{written_out}

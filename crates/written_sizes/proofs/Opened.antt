@@ -8,7 +8,7 @@ use Rattle.operator_faults.specs.declared.outline.Outline.{Outline}
 use Rattle.operator_faults.specs.Names.{same_word}
 use Rattle.operator_faults.specs.Calls.{operator_of}
 use Rattle.operator_faults.specs.Outlines.{outlined}
-use Rattle.operator_faults.proofs.CycleLemmas.{tells}
+use Rattle.shortest_cycles.proofs.CycleLemmas.{tells}
 use Rattle.written_sizes.specs.declared.measure.Measure.{Measure}
 use Rattle.written_sizes.specs.declared.form.Form.{Form}
 use Rattle.written_sizes.specs.declared.form.Share.TheVariants as share

@@ -10,7 +10,7 @@ use Rattle.operator_faults.specs.declared.fault.PlacedFault.{PlacedFault}
 use Rattle.operator_faults.specs.declared.fault.OperatorFault.{OperatorFault}
 use Rattle.operator_faults.specs.declared.fault.OperatorFault.TheVariants as fault
 use Rattle.operator_faults.specs.Calls.{is_before}
-use Rattle.operator_faults.specs.Firsts.{or_else}
+use Rattle.shortest_cycles.specs.Firsts.{or_else}
 use Rattle.operator_faults.specs.Sketches.{sketch_of}
 use Rattle.written_sizes.specs.declared.outermost.Outermost.{Outermost}
 use Rattle.written_sizes.specs.Sizes.{expressions, levels}

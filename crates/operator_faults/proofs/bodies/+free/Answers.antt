@@ -4,7 +4,7 @@ use Rattle.std.specs.List.{flat_map}
 use Rattle.std.specs.Option.{option_copied, option_to_list}
 use Rattle.operator_faults.specs.declared.outline.Outline.{Outline, out-Outline}
 use Rattle.operator_faults.specs.declared.outline.Site.{Site}
-use Rattle.operator_faults.specs.Firsts.{or_else}
+use Rattle.shortest_cycles.specs.Firsts.{or_else}
 use Rattle.operator_faults.specs.Bodies.{is_free, own_name, data_parts, data_names}
 use Rattle.operator_faults.proofs.Finds.{find-drop, find-data_names}
 use Rattle.operator_faults.proofs.bodies.+free.Goals as goal

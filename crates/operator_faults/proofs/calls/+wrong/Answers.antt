@@ -3,7 +3,7 @@ use Rattle.std.specs.Prelude.{find}
 use Rattle.std.specs.Option.{option_copied, option_to_list}
 use Rattle.operator_faults.specs.declared.outline.Outline.{Outline, out-Outline}
 use Rattle.operator_faults.specs.declared.outline.CallSite.{CallSite}
-use Rattle.operator_faults.specs.Firsts.{or_else}
+use Rattle.shortest_cycles.specs.Firsts.{or_else}
 use Rattle.operator_faults.specs.Calls.{is_wrong, own_call, sites, all_sites}
 use Rattle.operator_faults.proofs.Finds.{find-drop, find-sites}
 use Rattle.operator_faults.proofs.calls.+wrong.Goals as goal

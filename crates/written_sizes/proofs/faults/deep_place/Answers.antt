@@ -1,6 +1,6 @@
 use Rattle.std.proofs.Common.{Option, Some, None, ap, ◌∙◌}
 use Rattle.vtl_values.specs.declared.place.Place.{Place}
-use Rattle.operator_faults.specs.Firsts.{or_else}
+use Rattle.shortest_cycles.specs.Firsts.{or_else}
 use Rattle.written_sizes.specs.declared.outermost.Calls.{Calls}
 use Rattle.written_sizes.specs.Outermost.{calls_in}
 use Rattle.written_sizes.specs.SizeFaults.{place_at, deep_number, levels_in}

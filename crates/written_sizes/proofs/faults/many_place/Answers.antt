@@ -1,7 +1,7 @@
 use Rattle.std.proofs.Common.{◌+◌, Option, ap, ◌∙◌}
 use Rattle.std.proofs.Math.Path.{ap₂}
 use Rattle.vtl_values.specs.declared.place.Place.{Place}
-use Rattle.operator_faults.specs.Firsts.{or_else}
+use Rattle.shortest_cycles.specs.Firsts.{or_else}
 use Rattle.written_sizes.specs.declared.measure.Measure.TheVariants as measure
 use Rattle.written_sizes.specs.declared.outermost.Calls.{Calls}
 use Rattle.written_sizes.specs.Arithmetic.{capped}

@@ -1,7 +1,0 @@
-use Rattle.std.proofs.Common.{◌≡◌, ◌-◌, ◌∷◌, ◌++◌}
-use Rattle.operator_faults.specs.Cycles.{between}
-use Rattle.operator_faults.proofs.graph.cycle_on.Given as goal
-
--- what is there, and then the rest of the way
-abbrev pub invariant-loop-k : goal.invariant-loop-k
-invariant-loop-k l = l.start ∷ between l.graph l.left l.start l.start ≡ l.cycle ++ between l.graph (l.left - l.k) l.start l.last

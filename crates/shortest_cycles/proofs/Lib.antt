@@ -1,0 +1,5 @@
+pub mod CycleLemmas
+pub mod CyclesFound
+pub mod Rows
+pub mod FirstCycles
+pub mod Lines
