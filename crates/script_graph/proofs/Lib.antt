@@ -1,0 +1,7 @@
+pub mod Answering
+pub mod Orders
+pub mod RepeatLemmas
+pub mod Naming
+pub mod Whole
+pub mod Trees
+pub mod Measures
