@@ -1,0 +1,15 @@
+pub mod Actions
+pub mod Cuts
+pub mod Headers
+pub mod Lines
+pub mod Names
+pub mod Nexts
+pub mod Reading
+pub mod Records
+pub mod Steps
+pub mod Tables
+pub mod TextRecords
+pub mod Utf8Cuts
+pub mod WholeFeeds
+pub mod Worked
+pub mod FewLemmas
