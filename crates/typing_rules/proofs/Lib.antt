@@ -1,0 +1,10 @@
+pub mod Sound
+pub mod SoundSets
+pub mod SoundNames
+pub mod Levels
+pub mod Folds
+pub mod Erasing
+pub mod SeenTrees
+pub mod Complete
+pub mod CompleteNames
+pub mod OneKind
