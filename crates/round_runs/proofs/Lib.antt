@@ -1,0 +1,5 @@
+pub mod RoundLemmas
+pub mod JudgeLemmas
+pub mod EvalLemmas
+pub mod LineLemmas
+pub mod OpenLemmas

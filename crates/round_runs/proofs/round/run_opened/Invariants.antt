@@ -1,0 +1,4 @@
+use Rattle.round_runs.proofs.round.run_opened.Given as goal
+
+abbrev pub ghosts-run_uncounted : goal.ghosts-run_uncounted
+ghosts-run_uncounted g a = record { name = a.blank.name; parts = a.blank.parts }

@@ -1,0 +1,5 @@
+pub mod Answers
+pub mod Eval
+pub mod Lines
+pub mod Rounds
+pub mod Runs
