@@ -1,4 +1,0 @@
-pub mod Checked
-pub mod Inputs
-pub mod Positions
-pub mod Reading
