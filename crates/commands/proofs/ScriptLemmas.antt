@@ -9,7 +9,8 @@ use Rattle.vtl_parser.specs.Parses.{answered, IsOnly}
 use Rattle.vtl_parser.proofs.Answered.{answered-only}
 use Rattle.commands.specs.declared.stop.Stop.{Stop}
 use Rattle.commands.specs.declared.stop.Stop.TheVariants.{Ended, Memory}
-use Rattle.commands.specs.Stages.{Answer, Stage}
+use Rattle.round_runs.specs.Answers.{Answer}
+use Rattle.commands.specs.Stages.{Stage}
 use Rattle.commands.specs.Ends.{Gives, Refuses}
 use Rattle.commands.specs.Scripts.{fault_line, operator_line, refused_script, told_tree, told_written}
 

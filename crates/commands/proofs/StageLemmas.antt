@@ -15,10 +15,11 @@ use Rattle.commands.specs.declared.stop.Stop.{Stop}
 use Rattle.commands.specs.declared.stop.Stop.TheVariants.{Ended}
 use Rattle.commands.specs.declared.stop.Stop.TheVariants as stop
 use Rattle.commands.specs.Words.{FileLimit, within}
-use Rattle.commands.specs.Stages.{Answer, Stage}
-use Rattle.commands.specs.Eval.{behind}
+use Rattle.round_runs.specs.Answers.{Answer}
+use Rattle.commands.specs.Stages.{Stage}
+use Rattle.round_runs.specs.Eval.{behind}
 use Rattle.commands.specs.Lines.{unread, too_long}
-use Rattle.commands.specs.Ends.{told_by, Gives, Fault, IsTooLong, HasCause, EndsWith, Ends, Stands, How, Did}
+use Rattle.commands.specs.Ends.{told_by, Gives, Fault, IsTooLong, HasCause, EndsWith, Ends, Stands, How, Did, Refuses, IsOfWords, EndedSo}
 use Rattle.commands.specs.Views.{status_of}
 
 -- A fault of a later stage is one of all stages: the names may be more, and the faults counted from earlier on.
@@ -64,6 +65,28 @@ stands_later {names = names} {wider = wider} {old = old} {mid = mid} {new = new}
   end = ends_later names wider old mid new e stage whole files later named passes (subst (λ (x : Stop). Ends names mid new x stage) (sym same) s.end);
 }
 stands_later (Ok a) same files later named passes s = absurd same
+
+-- ---- the words
+
+-- the end of the words is that of all stages, and no file was read
+words_end : {B C : Type 0} (names : List FileLimit) (shelf : ShelfView) (end : Stop) (words : Stage C) (whole : Files → Stage B)
+    → IsOfWords end → Refuses end words → ((a : Answer) → words ≡ Err a → (files : Files) → whole files ≡ Err a) → Ends names shelf shelf end whole
+words_end names shelf (Ended e) words whole status refuses passes = record {
+  meant = λ files told. inl (passes (told_by e) refuses files);
+  cause = λ two. ⊎_elim (λ one. absurd (omega (arith, one, two))) (λ four. absurd (omega (arith, four, two))) status;
+  early = ⊎_elim (λ one. (omega (arith, one), omega (arith, one))) (λ four. (omega (arith, four), omega (arith, four))) status;
+}
+words_end names shelf stop.Memory words whole status refuses passes = tt
+
+pub words_stand : {A B C : Type 0} {view : A → B} {names : List FileLimit} {shelf : ShelfView} (end : Stop) (r : Result A Stop) (words : Stage C) {whole : Files → Stage B}
+    → IsErrAnd r (λ e. e ≡ end) → IsOfWords end → Refuses end words → ((a : Answer) → words ≡ Err a → (files : Files) → whole files ≡ Err a) → Stands view names shelf shelf r whole
+words_stand {names = names} {shelf = shelf} end (Err e) words {whole = whole} same status refuses passes = record {
+  files = refl;
+  later = omega arith;
+  value = tt;
+  end = subst (λ (x : Stop). Ends names shelf shelf x whole) (sym same) (words_end names shelf end words whole status refuses passes);
+}
+words_stand end (Ok a) words same status refuses passes = absurd same
 
 -- ---- one file
 
@@ -130,6 +153,14 @@ did_as {old} {new} {r} {text} {status} {now} {meant} w is same =
 -- for want of memory nothing was written
 pub did_nothing : (view : SinkView) (meant : Answer) → Did view view meant 7
 did_nothing view meant = record { how = inr (inr (refl, took_none view.taken meant.text)) }
+
+-- what was done of an end that stands for an answer
+pub did_end : (old new : SinkView) (stop : Stop) (status : ℕ) (meant : Answer) → Gives stop meant → EndedSo old new stop status → Did old new meant status
+did_end old new (Ended e) status meant gives did = subst (λ (a : Answer). Did old new a status) gives did
+did_end old new stop.Memory status meant gives did = subst (λ (s : ℕ). Did old new meant s) (sym did.1) (subst (λ (v : SinkView). Did v new meant 7) did.0 (did_nothing new meant))
+
+pub did_refused : {A : Type 0} (old new : SinkView) (r : Result A Stop) (stop : Stop) (status : ℕ) (meant : Answer) → r ≡ Err stop → IsErrAnd r (λ s. Gives s meant) → EndedSo old new stop status → Did old new meant status
+did_refused old new r stop status meant is gives did = did_end old new stop status meant (subst (λ q. IsErrAnd q (λ s. Gives s meant)) is gives) did
 
 -- a list of one has nothing else
 pub contains_one : {A : Type 0} {y : A} (xs : List A) (x : A) → Contains xs y → Contains (y ∷ []) x → Contains xs x

@@ -6,7 +6,8 @@ use Rattle.outside.specs.Sinks.{SinkView, Took}
 use Rattle.commands.specs.declared.stop.Ending.{Ending}
 use Rattle.commands.specs.declared.stop.Stop.{Stop}
 use Rattle.commands.specs.declared.stop.Stop.TheVariants.{Ended, Memory}
-use Rattle.commands.specs.Stages.{Answer, Stage}
+use Rattle.round_runs.specs.Answers.{Answer}
+use Rattle.commands.specs.Stages.{Stage}
 use Rattle.commands.specs.Lines.{unread}
 use Rattle.commands.specs.Words.{FileLimit}
 
@@ -81,6 +82,11 @@ pub record Did (old new : SinkView) (meant : Answer) (status : ℕ) : Type 0 whe
 abbrev pub IsEarly : Stop → Type 0
 IsEarly (Ended e) = IsEarlyStatus e.status
 IsEarly Memory = Unit {0}
+
+-- an end of the words, before any file is read: no command accepts them, or theirs isn't built
+abbrev pub IsOfWords : Stop → Type 0
+IsOfWords (Ended e) = (e.status ≡ 1) ⊎ (e.status ≡ 4)
+IsOfWords Memory = Unit {0}
 
 -- what the call did of an end before the run
 abbrev pub EndedSo : SinkView → SinkView → Stop → ℕ → Type 0

@@ -1,12 +1,10 @@
 pub mod Ends
-pub mod Eval
-pub mod Forms
+pub mod Feeds
 pub mod Lines
 pub mod Output
 pub mod Reading
-pub mod Rounds
-pub mod Runs
 pub mod Scripts
 pub mod Stages
+pub mod Structures
 pub mod Views
 pub mod Words

@@ -1,5 +1,5 @@
--- The stages of the script: its tokens, its tree, the tree with its defined operators written out, and what that stands
--- for (docs/language.md; docs/formats.md, "Output").
+-- The stages of the script: its tokens, its tree, the tree with its defined operators written out, its graph, and what
+-- it stands for (docs/language.md; docs/formats.md, "Output").
 use Rattle.std.specs.Prelude.{ℕ, List, [], ◌∷◌, ◌++◌, Option, Some, None, Result, Ok, Err, codes, decimal, encode_utf8_all}
 use Rattle.std.specs.List.{flat_map}
 use Rattle.vtl_values.specs.declared.place.Place.{Place}
@@ -15,10 +15,17 @@ use Rattle.operator_faults.specs.declared.fault.OperatorFault.{OperatorFault}
 use Rattle.operator_faults.specs.declared.fault.OperatorFault.TheVariants as wrong
 use Rattle.operator_faults.specs.declared.fault.PlacedFault.{PlacedFault}
 use Rattle.defined_operators.specs.Expanded.{expanded}
+use Rattle.script_graph.specs.declared.fault.GraphFault.{GraphFault}
+use Rattle.script_graph.specs.declared.fault.GraphFault.TheVariants as graph
+use Rattle.script_graph.specs.declared.fault.PlacedFault.{PlacedFault as PlacedGraphFault}
+use Rattle.script_graph.specs.Faults.{first_fault}
 use Rattle.checked_trees.specs.Scripts.{Script}
-use Rattle.plain_scripts.specs.Scripts.{plain_script}
-use Rattle.commands.specs.Stages.{Answer, Stage, after}
-use Rattle.commands.specs.Lines.{line, not_built}
+use Rattle.vtl_values.specs.Structures.{NamedStructures}
+use Rattle.sum_scripts.specs.Scripts.{sum_script}
+use Rattle.round_runs.specs.Answers.{Answer}
+use Rattle.commands.specs.Stages.{Stage, after}
+use Rattle.round_runs.specs.Lines.{line}
+use Rattle.commands.specs.Lines.{not_built}
 
 -- a fault, as the end of its line
 abbrev pub lex_line : LexFault → List ℕ
@@ -49,8 +56,9 @@ abbrev pub with_commas : List (List ℕ) → List ℕ
 with_commas [] = []
 with_commas (first ∷ others) = encode_utf8_all first ++ flat_map after_comma others
 
-abbrev pub recursion_line : List (List ℕ) → List ℕ
-recursion_line names = line (codes "Recursion " ++ with_commas names)
+-- a fault with the names of a cycle
+abbrev pub names_line : List ℕ → List (List ℕ) → List ℕ
+names_line told names = line (told ++ with_commas names)
 
 abbrev pub operator_line : OperatorFault → List ℕ
 operator_line (wrong.DefinedTwice name) = named_line (codes "DefinedTwice ") name
@@ -58,10 +66,15 @@ operator_line (wrong.ParameterTwice name) = named_line (codes "ParameterTwice ")
 operator_line (wrong.UnknownOperator name) = named_line (codes "UnknownOperator ") name
 operator_line wrong.ArgumentCount = codes "ArgumentCount\n"
 operator_line (wrong.FreeName name) = named_line (codes "FreeName ") name
-operator_line (wrong.Recursion names) = recursion_line names
+operator_line (wrong.Recursion names) = names_line (codes "Recursion ") names
 operator_line wrong.ArgumentSort = codes "ArgumentSort\n"
 operator_line wrong.WrittenTooDeep = codes "WrittenTooDeep\n"
 operator_line wrong.WrittenTooMany = codes "WrittenTooMany\n"
+
+abbrev pub graph_line : GraphFault → List ℕ
+graph_line graph.AssignedTwice = codes "AssignedTwice\n"
+graph_line (graph.Unknown name) = named_line (codes "Unknown ") name
+graph_line (graph.Cycle names) = names_line (codes "Cycle ") names
 
 -- the line of a script that is refused, up to the fault
 abbrev pub refused_at : Place → List ℕ
@@ -86,15 +99,23 @@ abbrev pub told_written : Result tree.Script PlacedFault → Stage tree.Script
 told_written (Ok script) = Ok script
 told_written (Err placed) = Err (refused_script placed.place (operator_line placed.fault))
 
+-- no name is given twice or stands for nothing, and no statement depends on itself
+abbrev pub told_graph : Option PlacedGraphFault → Stage (Unit {0})
+told_graph None = Ok tt
+told_graph (Some placed) = Err (refused_script placed.place (graph_line placed.fault))
+
 -- what is built of it
-abbrev pub told_plain : Option Script → Stage Script
-told_plain None = Err not_built
-told_plain (Some script) = Ok script
+abbrev pub told_sums : Option Script → Stage Script
+told_sums None = Err not_built
+told_sums (Some script) = Ok script
 
--- what a tree stands for
-abbrev pub checked : tree.Script → Stage Script
-checked tree = after (told_written (expanded tree)) (λ written. told_plain (plain_script written))
+-- what a tree stands for, over inputs of these structures
+abbrev pub checked : NamedStructures → tree.Script → Stage Script
+checked structures tree =
+    after (told_written (expanded tree)) (λ written.
+    after (told_graph (first_fault written structures)) (λ _.
+    told_sums (sum_script structures written)))
 
--- the checked script of a text
-abbrev pub script_of : List ℕ → Stage Script
-script_of text = after (told_tokens (tokens_of text)) (λ tokens. after (told_tree (answered tokens)) checked)
+-- the checked script of a text, over inputs of these structures
+abbrev pub script_of : NamedStructures → List ℕ → Stage Script
+script_of structures text = after (told_tokens (tokens_of text)) (λ tokens. after (told_tree (answered tokens)) (checked structures))

@@ -1,10 +1,6 @@
 -- Stages of a command: each goes on with a value, or ends the command with its answer.
-use Rattle.std.specs.Prelude.{ℕ, List, Bool, if◌then◌else◌, Result, Ok, Err}
-
--- how a command ends: its status, and all that it writes
-pub record Answer : Type 0 where
-  pub status : ℕ
-  pub text : List ℕ
+use Rattle.std.specs.Prelude.{Result, Ok, Err}
+use Rattle.round_runs.specs.Answers.{Answer}
 
 abbrev pub Stage : Type 0 → Type 0
 Stage A = Result A Answer
@@ -13,10 +9,6 @@ Stage A = Result A Answer
 abbrev pub after : {A B : Type 0} → Stage A → (A → Stage B) → Stage B
 after (Ok a) next = next a
 after (Err end) next = Err end
-
--- a stage that only tests
-abbrev pub passed : Bool → Answer → Stage (Unit {0})
-passed test end = if test then Ok tt else Err end
 
 -- the answer of all stages
 abbrev pub answer : Stage Answer → Answer

@@ -1,28 +1,28 @@
 // The top call.
-ghost use Rattle.std.specs.Prelude.{◌≡◌, ◌≢◌, ◌⊎◌, ℕ, map, string_bytes, IsErr, IsErrAnd, IfOk, IfSome, IsSome, None};
+ghost use Rattle.std.specs.Prelude.{◌≡◌, ◌≢◌, ◌⊎◌, ℕ, map, string_bytes, Err, IsErr, IsErrAnd, IfOk, IfSome, IsSome, None};
 ghost use Rattle.std.specs.Thread.{IsSync};
 ghost use Rattle.std.specs.declared.vec.Vec.{Vec};
 ghost use Rattle.std.specs.declared.alloc.Global.{Global};
 ghost use Rattle.round_journal.specs.Journals.{Legal};
 ghost use Rattle.outside.specs.Counts.{Rose};
 ghost use Rattle.outside.specs.Shelves.{Told};
-ghost use Rattle.commands.specs.Eval as meant;
-ghost use Rattle.commands.specs.Eval.{behind};
+ghost use Rattle.round_runs.specs.Eval as meant;
+ghost use Rattle.round_runs.specs.Eval.{behind};
 ghost use Rattle.commands.specs.Ends.{Fault, Gives, HasCause, Stands, Did, EndedSo, IsEarly};
-ghost use Rattle.commands.specs.Lines.{not_built, unread};
+ghost use Rattle.commands.specs.Lines.{unread};
 ghost use Rattle.commands.specs.Output.{output, ready, IsProductionOf};
-ghost use Rattle.commands.specs.Runs.{IsFew, IsRunOf, IsSomeRun, IsAtRest, HasFault, WritesEnd};
-ghost use Rattle.commands.specs.Stages.{Answer};
+ghost use Rattle.round_runs.specs.Runs.{IsFew, IsRunOf, IsSomeRun, IsAtRest, HasFault, WritesEnd};
+ghost use Rattle.round_runs.specs.Answers.{Answer};
 ghost use Rattle.commands.specs.Views.{run_of, status_of};
 ghost use Rattle.commands.specs.Words.{command_of, files_named};
 
-use crate::eval::{End, Ran, eval};
 use crate::forms::{EvalInput, read_forms};
 use crate::reading::read_files;
 use crate::stop::Stop;
 use crate::words::command;
 use outside::{Gate, Shelf, Sink, SinkStop, put};
 use round_core::Production;
+use round_runs::eval::{End, Ran, eval};
 use std::alloc::Global;
 use std::marker::Sync;
 use std::sync::Wait;
@@ -31,8 +31,8 @@ use std::thread::Threads;
 /// How a run of the program ended.
 #[derive(Drop)]
 pub struct Outcome {
-    /// 0 where all went well; 2 for a file that can't be read or is too long, 3 for a script that is refused, 4 for what
-    /// isn't built yet, 5 for a round that failed, 6 for a write that failed, 7 for want of memory.
+    /// 0 where all went well; 1 for words that no command accepts, 2 for a file that can't be read or is too long, 3 for
+    /// structures or a script that are refused, 4 for a feed that is refused and for what isn't built yet, 5 for a round that failed, 6 for a write that failed, 7 for want of memory.
     pub status: u8,
     /// Where the run came to its end, the production that it ran on.
     pub production: Option<Production>,
@@ -56,7 +56,7 @@ fn gathered<S: Shelf>(alloc: Global, words: &Vec<String>, shelf: &mut S) -> Resu
     ensures stage { Stands run_of (files_named (command_of (map string_bytes words.now.items)))
         (S.view shelf.old) (S.view shelf.new) result (ready (map string_bytes words.now.items)) }
     ensures few { IfOk result (λ input. IsFew input.revisions.items) }
-    ensures words { IsErr (command_of (map string_bytes words.now.items)) → IsErrAnd result (λ stop. Gives stop not_built) }
+    ensures words { (end : Answer) → command_of (map string_bytes words.now.items) ≡ Err end → IsErrAnd result (λ stop. Gives stop end) }
     ensures untouched { IsErr (command_of (map string_bytes words.now.items)) → S.view shelf.new ≡ S.view shelf.old }
 {
     let eval = command(alloc, words)?;
@@ -156,12 +156,12 @@ pub fn run_vtlprod<R: AllocGlobal + Threads + Wait + Sync, S: Shelf, K: Sink, G:
         ⊎ (Fault (files_named (command_of (map string_bytes words.now.items))) (S.view shelf.old) (S.view shelf.new)
         × Did (K.view out.old) (K.view out.new) (unread (S.view shelf.new).last) result.status)) }
 
-    // Whatever the shelf tells: the causes of statuses 2 and 6, and the answer to words that no command accepts.
+    // Whatever the shelf tells: the causes of statuses 2 and 6, and the answer to words that name no command that is built.
     ensures read { HasCause (files_named (command_of (map string_bytes words.now.items)))
         (S.view shelf.old) (S.view shelf.new) result.status }
     ensures write { result.status ≡ 6 → Rose (K.view out.old).faults (K.view out.new).faults }
-    ensures words { IsErr (command_of (map string_bytes words.now.items)) →
-        Did (K.view out.old) (K.view out.new) not_built result.status }
+    ensures words { (end : Answer) → command_of (map string_bytes words.now.items) ≡ Err end →
+        Did (K.view out.old) (K.view out.new) end result.status }
     ensures untouched { IsErr (command_of (map string_bytes words.now.items)) → S.view shelf.new ≡ S.view shelf.old }
 
     // Of the production that is handed back: it ran some script over some revisions, within the program's limits, and no

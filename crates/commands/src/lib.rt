@@ -1,16 +1,17 @@
 //! The commands of the program, from its words and the bytes of its files to the bytes that it writes.
 //!
 //! `call::run_vtlprod` works on any shelf, sink and gate. Its contract says what is written and with which status the
-//! program ends (specs/Output.antt). It stands on every other crate.
+//! program ends (specs/Output.antt). It stands on `round_runs`, which runs a script over revisions, on the crates that read
+//! scripts, and on the forms of files that the program takes.
 #![tactic(auto)]
 
 pub mod call;
-pub mod eval;
+mod feeds;
 pub mod forms;
-pub mod lines;
+mod graph;
 mod operators;
 pub mod reading;
-pub mod round;
 pub mod script;
 pub mod stop;
+mod structures;
 pub mod words;

@@ -2,7 +2,7 @@
 ghost use Rattle.std.specs.Prelude.{◌≡◌, ◌++◌, IfOk, IfErr, OnOk, Ok};
 ghost use Rattle.defined_operators.specs.Expanded.{expanded};
 ghost use Rattle.commands.specs.Ends.{IsRefusal, Refuses};
-ghost use Rattle.commands.specs.Scripts.{named_line, recursion_line, with_commas, operator_line, told_written};
+ghost use Rattle.commands.specs.Scripts.{named_line, names_line, with_commas, operator_line, told_written};
 
 use crate::script::refused;
 use crate::stop::Stop;
@@ -37,15 +37,15 @@ fn operator_line(alloc: Global, fault: &OperatorFault) -> Result<Vec<u8>, AllocE
         OperatorFault::UnknownOperator(name) => named_line(alloc, b"UnknownOperator ", name),
         OperatorFault::ArgumentCount => b"ArgumentCount\n".to_vec(alloc),
         OperatorFault::FreeName(name) => named_line(alloc, b"FreeName ", name),
-        OperatorFault::Recursion(names) => recursion_line(alloc, names.as_slice()),
+        OperatorFault::Recursion(names) => names_line(alloc, b"Recursion ", names.as_slice()),
         OperatorFault::ArgumentSort => b"ArgumentSort\n".to_vec(alloc),
         OperatorFault::WrittenTooDeep => b"WrittenTooDeep\n".to_vec(alloc),
         OperatorFault::WrittenTooMany => b"WrittenTooMany\n".to_vec(alloc),
     }
 }
 
-// A fault that tells a name, as the end of its line.
-fn named_line(alloc: Global, fault: &[u8], name: &Word) -> Result<Vec<u8>, AllocError>
+/// A fault that tells a name, as the end of its line.
+pub(crate) fn named_line(alloc: Global, fault: &[u8], name: &Word) -> Result<Vec<u8>, AllocError>
     ensures { IfOk result (λ end. end.items ≡ named_line fault.now name.now) }
 {
     let mut line = fault.to_vec(alloc)?;
@@ -54,11 +54,11 @@ fn named_line(alloc: Global, fault: &[u8], name: &Word) -> Result<Vec<u8>, Alloc
     Ok(line)
 }
 
-// The names of a cycle, as the end of the line.
-fn recursion_line(alloc: Global, names: &[Word]) -> Result<Vec<u8>, AllocError>
-    ensures { IfOk result (λ end. end.items ≡ recursion_line names.now) }
+/// A fault that tells the names of a cycle, as the end of its line.
+pub(crate) fn names_line(alloc: Global, fault: &[u8], names: &[Word]) -> Result<Vec<u8>, AllocError>
+    ensures { IfOk result (λ end. end.items ≡ names_line fault.now names.now) }
 {
-    let mut line = b"Recursion ".to_vec(alloc)?;
+    let mut line = fault.to_vec(alloc)?;
     push_names(&mut line, names)?;
     line.push(b'\n')?;
     Ok(line)

@@ -1,7 +1,8 @@
 // The stage of the files.
 ghost use Rattle.std.specs.Prelude.{◌≡◌, ◌≢◌, ◌≤◌, [], ◌∷◌, ◌++◌, length, codes, decimal, encode_utf8_all, IfOk, IfErr};
 ghost use Rattle.commands.specs.Ends.{Gives, Stands};
-ghost use Rattle.commands.specs.Lines.{line, unread, too_long};
+ghost use Rattle.round_runs.specs.Lines.{line};
+ghost use Rattle.commands.specs.Lines.{unread, too_long};
 ghost use Rattle.commands.specs.Reading.{file, files_of};
 ghost use Rattle.commands.specs.Views.{as_bytes, eval_bytes, eval_names};
 ghost use Rattle.commands.specs.Words.{named, within};

@@ -6,31 +6,38 @@ ghost use Rattle.vtl_lexer.specs.Texts.{tokens_of};
 ghost use Rattle.commands.specs.Ends.{Gives, IsRefusal, Refuses};
 ghost use Rattle.commands.specs.Scripts.{lex_line, fault_line, left_out, refused_at, refused_script, told_tokens, told_tree, script_of};
 
+use crate::graph::has_order;
 use crate::operators::written_out;
 use crate::reading::SCRIPT_LIMIT;
 use crate::stop::{Ending, Stop};
 use crate::words::not_built;
 use checked_trees::CheckedScript;
-use plain_scripts::check_plain;
 use std::alloc::{AllocError, Global};
+use sum_scripts::check_sums;
 use vtl_lexer::{LexFault, LexStop, tokens};
 use vtl_parser::{ParseFault, ParseStop, parse};
 use vtl_syntax::Script;
 use vtl_tokens::{Keyword, Token};
-use vtl_values::Place;
+use vtl_values::{Place, Structures};
 
-/// The checked script of a text: its tokens are read, then the tree that they are; its defined operators are written
-/// out; and then it is told what this stands for.
-pub fn checked_script(alloc: Global, text: &[u8]) -> Result<CheckedScript, Stop>
+/// The checked script of a text, over inputs of these structures: its tokens are read, then the tree that they are; its
+/// defined operators are written out, and its statements have an order; and then it is told what this stands for.
+pub fn checked_script(
+    alloc: Global,
+    structures: Structures,
+    text: &[u8],
+) -> Result<CheckedScript, Stop>
     requires { length text.now ≤ SCRIPT_LIMIT }
-    ensures go { IfOk result (λ script. script_of text.now ≡ Ok script) }
-    ensures end { IfErr result (λ stop. Refuses stop (script_of text.now)) }
+    ensures go { IfOk result (λ script. script_of structures text.now ≡ Ok script) }
+    ensures inputs { IfOk result (λ script. script.inputs ≡ structures) }
+    ensures end { IfErr result (λ stop. Refuses stop (script_of structures text.now)) }
     ensures kind { IfErr result IsRefusal }
 {
     let tokens = read_tokens(alloc, text)?;
     let script = read_tree(alloc, tokens.as_slice())?;
     let written = written_out(alloc, &script)?;
-    match check_plain(alloc, &written)? {
+    has_order(alloc, &written, &structures)?;
+    match check_sums(alloc, structures, &written)? {
         Some(checked) => Ok(checked),
         None => Err(not_built(alloc)),
     }

@@ -18,21 +18,20 @@
 #![tactic(auto)]
 
 ghost use Rattle.std.specs.Prelude.{◌≡◌};
-ghost use Rattle.plain_scripts.specs.Inputs.{STRUCTURES};
 
 mod revisions;
 mod scripts;
 mod turns;
 
 use crate::revisions::{one_row, revision_at};
-use crate::scripts::{limits_at, of_script, of_structures, plain_script};
+use crate::scripts::{limits_at, of_script, of_structures, script_of};
 use crate::turns::{give_up, take_turn, take_turn_with_news, take_turn_with_script};
 use anyhow::{Result, bail};
 use case_lines::{answer_files, items, list_at, text_at};
-use commands::lines::verdict_line;
 use outside::SureSink;
 use release_text::Release;
 use round_core::{Given, NoRelease, Production, RescriptStop, SubmitStop};
+use round_runs::lines::verdict_line;
 use serde_json::Value as Json;
 use std::alloc::Global;
 use std::marker::Sync;
@@ -112,11 +111,10 @@ fn swapped<R: Threads + Sync>(
     production: &mut Production,
     step: &[Json],
 ) -> Result<String>
-    requires { production.old.script.inputs ≡ STRUCTURES }
     ensures { production.new.script ≡ production.old.script }
 {
     let by = caller(step)?;
-    let script = plain_script(alloc, text_at(step, 2)?)?;
+    let script = script_of(alloc, production.script().inputs(), text_at(step, 2)?)?;
     match take_turn_with_script(rt, alloc, production, by, script) {
         Ok(given) => given_text(alloc, &given),
         Err(stop) => Ok(format!(in alloc; "{stop:?}")?),
@@ -133,10 +131,9 @@ fn given_up(alloc: Global, production: &mut Production, step: &[Json]) -> Result
 }
 
 fn rescripted(alloc: Global, production: &mut Production, step: &[Json]) -> Result<String>
-    requires { production.old.script.inputs ≡ STRUCTURES }
     ensures { production.new.script ≡ production.old.script }
 {
-    let script = plain_script(alloc, text_at(step, 2)?)?;
+    let script = script_of(alloc, production.script().inputs(), text_at(step, 2)?)?;
     match production.rescript(caller(step)?, script) {
         Ok(number) => Ok(format!(in alloc; "script {number}")?),
         Err(RescriptStop::Full(full)) => Ok(format!(in alloc; "full {full:?}")?),
@@ -211,7 +208,6 @@ fn held(alloc: Global, production: &Production, step: &[Json]) -> Result<String>
     }
 }
 
-// A step that any production takes.
 fn step_text<R: Threads + Sync>(
     rt: &R,
     alloc: Global,
@@ -225,27 +221,12 @@ fn step_text<R: Threads + Sync>(
         "open" => opened(alloc, production, step),
         "turn" => turned(rt, alloc, production, step),
         "give up" => given_up(alloc, production, step),
+        "rescript" => rescripted(alloc, production, step),
+        "swap" => swapped(rt, alloc, production, step),
         "rounds" => rounds(rt, alloc, production, step),
         "release" => released(alloc, production, step),
         "holding" => held(alloc, production, step),
         step => bail!("no step {step}"),
-    }
-}
-
-// A step that a production of a plain script takes.
-fn plain_step_text<R: Threads + Sync>(
-    rt: &R,
-    alloc: Global,
-    production: &mut Production,
-    step: &[Json],
-) -> Result<String>
-    requires { production.old.script.inputs ≡ STRUCTURES }
-    ensures { production.new.script ≡ production.old.script }
-{
-    match text_at(step, 0)? {
-        "rescript" => rescripted(alloc, production, step),
-        "swap" => swapped(rt, alloc, production, step),
-        _ => step_text(rt, alloc, production, step),
     }
 }
 
@@ -273,30 +254,19 @@ fn steps_text<R: Threads + Sync>(
     Ok(out)
 }
 
-// The same, of a plain script.
-fn plain_steps_text<R: Threads + Sync>(
-    rt: &R,
-    alloc: Global,
-    production: &mut Production,
-    steps: &[Json],
-) -> Result<String>
-    requires { production.old.script.inputs ≡ STRUCTURES }
-{
-    let mut out = String::new(alloc);
-    for step in steps {
-        let text = plain_step_text(rt, alloc, production, items(step)?)?;
-        out = and_answer(out, text.as_str())?;
-    }
-    Ok(out)
-}
-
 fn answer<R: Threads + Sync>(rt: &R, alloc: Global, call: &str, words: &[Json]) -> Result<String> {
-    if call == "structures" {
-        let mut production = of_structures(alloc, words.get(1), limits_at(words, 2)?)?;
-        return steps_text(rt, alloc, &mut production, list_at(words, 5)?);
-    }
-    let mut production = of_script(alloc, call, limits_at(words, 1)?)?;
-    plain_steps_text(rt, alloc, &mut production, list_at(words, 4)?)
+    let (mut production, steps) = if call == "structures" {
+        (
+            of_structures(alloc, words.get(1), limits_at(words, 2)?)?,
+            list_at(words, 5)?,
+        )
+    } else {
+        (
+            of_script(alloc, call, limits_at(words, 1)?)?,
+            list_at(words, 4)?,
+        )
+    };
+    steps_text(rt, alloc, &mut production, steps)
 }
 
 fn main(rt: HostRuntime) -> Result<()> {

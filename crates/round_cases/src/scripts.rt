@@ -1,6 +1,5 @@
 // Scripts, and productions of them.
 ghost use Rattle.std.specs.Prelude.{◌≡◌, ◌≤◌, IfOk};
-ghost use Rattle.plain_scripts.specs.Inputs.{STRUCTURES};
 ghost use Rattle.round_cases.specs.Limits.{AreAllowed};
 
 use anyhow::{Result, bail};
@@ -44,25 +43,36 @@ pub fn limits_at(words: &[Json], at: usize) -> Result<Limits>
     })
 }
 
-/// A plain script, whose inputs are A and B.
-pub fn plain_script(alloc: Global, script: &str) -> Result<CheckedScript>
-    ensures { IfOk result (λ script. script.inputs ≡ STRUCTURES) }
+// The inputs of a case that names none: A and B, each with the string Id and the number Me.
+const A_AND_B: &str =
+    "{\"datasets\":[{\"name\":\"A\",\"components\":[{\"name\":\"Id\",\"role\":\"identifier\",\"type\":\"string\"},{\"name\":\"Me\",\"role\":\"measure\",\"type\":\"number\"}]},{\"name\":\"B\",\"components\":[{\"name\":\"Id\",\"role\":\"identifier\",\"type\":\"string\"},{\"name\":\"Me\",\"role\":\"measure\",\"type\":\"number\"}]}]}";
+
+/// A script of sums over these inputs.
+pub fn script_of(alloc: Global, inputs: &Structures, script: &str) -> Result<CheckedScript>
+    ensures { IfOk result (λ script. script.inputs ≡ inputs.now) }
 {
     if script.len() > 1000 {
         bail!("a long script");
     }
-    match checked_script(alloc, script.as_bytes()) {
+    match checked_script(alloc, inputs.copy(alloc)?, script.as_bytes()) {
         Ok(script) => Ok(script),
-        Err(_) => bail!("no plain script"),
+        Err(_) => bail!("no script of sums"),
     }
 }
 
-/// A production of a plain script.
+fn structures_of(alloc: Global, file: &str) -> Result<Structures> {
+    match read_structures(alloc, file.as_bytes()) {
+        Ok(structures) => Ok(structures),
+        Err(_) => bail!("structures that are refused"),
+    }
+}
+
+/// A production of a script over the inputs A and B.
 pub fn of_script(alloc: Global, script: &str, limits: Limits) -> Result<Production>
     requires { AreAllowed limits }
-    ensures { IfOk result (λ production. production.script.inputs ≡ STRUCTURES) }
 {
-    Ok(Production::new(alloc, plain_script(alloc, script)?, limits)?)
+    let inputs = structures_of(alloc, A_AND_B)?;
+    Ok(Production::new(alloc, script_of(alloc, &inputs, script)?, limits)?)
 }
 
 /// A production without statements, over the structures of a file.
@@ -73,11 +83,6 @@ pub fn of_structures(alloc: Global, structures: Option<&Json>, limits: Limits) -
         bail!("no structures");
     };
     let text = json.to_string(alloc)?;
-    match read_structures(alloc, text.as_bytes()) {
-        Ok(structures) => {
-            let script = no_statements(alloc, structures);
-            Ok(Production::new(alloc, script, limits)?)
-        }
-        Err(_) => bail!("structures that are refused"),
-    }
+    let script = no_statements(alloc, structures_of(alloc, text.as_str())?);
+    Ok(Production::new(alloc, script, limits)?)
 }

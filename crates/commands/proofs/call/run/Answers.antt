@@ -1,6 +1,6 @@
 use Rattle.std.proofs.Common.{List, ℕ, subst}
 use Rattle.commands.specs.Ends.{Did}
-use Rattle.commands.specs.Eval.{behind, end_of, judge_all}
+use Rattle.round_runs.specs.Eval.{behind, end_of, judge_all}
 use Rattle.commands.proofs.call.run.Goals as goal
 
 pub returns-in-Ok-clause-did : goal.returns-in-Ok-clause-did

@@ -1,9 +1,9 @@
 use Rattle.std.proofs.Common.{ℕ, List, Ok, ap, sym, subst, ◌∙◌, lit<, lit≤, arith}
 use Rattle.outside.specs.Sinks.{Extends}
 use Rattle.release_text.specs.Releases.{release}
-use Rattle.commands.specs.Runs.{WritesEnd}
-use Rattle.commands.specs.Stages.{Answer}
-use Rattle.commands.specs.declared.eval.End.{End}
+use Rattle.round_runs.specs.Runs.{WritesEnd}
+use Rattle.round_runs.specs.Answers.{Answer}
+use Rattle.round_runs.specs.declared.eval.End.{End}
 use Rattle.commands.proofs.StageLemmas.{did_behind, wrote_behind, rose_at_6}
 use Rattle.commands.proofs.call.write_run.Goals as goal
 

@@ -1,8 +1,0 @@
-use Rattle.std.proofs.Common.{arith}
-use Rattle.std.proofs.lemmas.Grind.{common_steps}
-use Rattle.commands.specs.Lines.{refused}
-use Rattle.commands.proofs.lines.refused_line.Goals as goal
-
-pub returns : goal.returns
-unfolding refused
-returns c = grind (arith, common_steps)

@@ -1,7 +1,0 @@
-use Rattle.std.proofs.Common.{arith}
-use Rattle.std.proofs.lemmas.Grind.{common_steps}
-use Rattle.commands.proofs.LineLemmas.{chars-none}
-use Rattle.commands.proofs.lines.text_of.Goals as goal
-
-pub returns-in-Empty : goal.returns-in-Empty
-returns-in-Empty c = grind (arith, common_steps, chars-none)

@@ -1,4 +1,0 @@
-use Rattle.commands.proofs.round.run_opened.Given as goal
-
-abbrev pub ghosts-run_uncounted : goal.ghosts-run_uncounted
-ghosts-run_uncounted g a = record { name = a.blank.name; parts = a.blank.parts }

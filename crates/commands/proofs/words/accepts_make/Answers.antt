@@ -1,0 +1,10 @@
+use Rattle.std.proofs.Common.{map, string_bytes, length, arith}
+use Rattle.std.proofs.lemmas.List.{length-map}
+use Rattle.commands.proofs.CommandLemmas.{short_make, long_make}
+use Rattle.commands.proofs.words.accepts_make.Goals as goal
+
+pub returns-in_default : goal.returns-in_default
+returns-in_default c = short_make (map string_bytes c.args.words.now) (omega (arith, length-map c.args.words.now string_bytes, c.in_default.len_below))
+
+pub returns-in_default-2 : goal.returns-in_default-2
+returns-in_default-2 c = long_make (map string_bytes c.args.words.now) (omega (arith, length-map c.args.words.now string_bytes, c.in_default.len_at_least))
