@@ -1,0 +1,14 @@
+use Rattle.std.proofs.Common.{[], ◌∷◌, Result, Ok}
+use Rattle.vtl_values.specs.declared.kind.Kind.{Kind}
+use Rattle.typing_rules.specs.declared.stop.Refusal.{Refusal}
+use Rattle.typing_rules.specs.Scalars.{Agreed, joint, widened}
+use Rattle.typing_rules.specs.Steps.{◌>>=◌}
+use Rattle.operator_typing.proofs.Steps.{stops_there, passed_on}
+use Rattle.operator_typing.proofs.operands.agreeing.Goals as goal
+
+pub returns-in_err-kind-clause-err : goal.returns-in_err-kind-clause-err
+returns-in_err-kind-clause-err c =
+    let kind : Result Kind Refusal = joint c.args.place c.args.takes.now (c.args.left.kind ∷ c.args.right.kind ∷ []) in
+    let next : Kind → Result Agreed Refusal = λ q. Ok (record { kind = q; left = widened q c.args.left; right = widened q c.args.right }) in
+    let stop = c.in_err-kind.field-0.0 in
+    passed_on (kind >>= next) c.from_residual.result stop (stops_there kind next stop c.in_err-kind.ensures.err) c.from_residual.ensures.1
