@@ -1,0 +1,172 @@
+// Evaluation.
+ghost use Rattle.std.specs.Prelude.{◌≡◌, true, IfOk, option_map};
+ghost use Rattle.vtl_values.specs.Texts.{Fits};
+ghost use Rattle.vtl_values.specs.declared.kind.Kind.{Kind};
+ghost use Rattle.scalar_trees.specs.WellTyped.{Kinds, is_of_kind};
+ghost use Rattle.scalar_meaning.specs.Scalars.{meaning, if_given};
+ghost use Rattle.scalar_meaning.specs.Kept.{IsRowOf};
+ghost use Rattle.scalar_eval.specs.Shapes.{shape_of, one_operand, on_texts};
+ghost use Rattle.scalar_eval.specs.Stops.{IsMeant};
+
+use crate::comparisons::{between, membership};
+use crate::logic::holds;
+use crate::numbers::{rounded, widened};
+use crate::operators::{binary, unary};
+use crate::row::Row;
+use crate::stop::EvalStop;
+use crate::texts::{matching, part_of, replacing};
+use scalar_trees::CheckedExpr;
+use sqlite_items::Boxed;
+use std::alloc::{AllocError, Global};
+use vtl_values::Value;
+
+/// The value of an expression on a row.
+///
+/// `Range` is told exactly where a part of it that counts is out of range; want of memory may be told of any. A well typed
+/// expression meets no value of another kind, and what it gives is null, or of its kind and within its range.
+pub fn eval<R: Row>(alloc: Global, expr: &CheckedExpr, row: &R) -> Result<Value, EvalStop>
+    ensures meant { IsMeant (meaning (R.values row.now) expr.now) result }
+    ensures kept { (kinds : Kinds) (kind : Kind) → is_of_kind kinds expr.now kind ≡ true → IsRowOf kinds (R.values row.now) → IfOk result (Fits kind) }
+{
+    value_of(alloc, expr, row)
+}
+
+/// The value of an expression on a row, part by part.
+#[cycle(values)]
+fn value_of<R: Row>(alloc: Global, expr: &CheckedExpr, row: &R) -> Result<Value, EvalStop>
+    ensures { IsMeant (meaning (R.values row.now) expr.now) result }
+{
+    match expr {
+        CheckedExpr::Literal(value) => Ok(value.copy()?),
+        CheckedExpr::Component(number) => Ok(component(row, *number)?),
+        CheckedExpr::Widened(_) => of_operand(alloc, expr, row),
+        CheckedExpr::Unary { .. } => of_operand(alloc, expr, row),
+        CheckedExpr::Binary {
+            operator,
+            left,
+            right,
+        } => {
+            let left = value_of(alloc, left.get(), row)?;
+            let right = value_of(alloc, right.get(), row)?;
+            binary(alloc, *operator, &left, &right)
+        }
+        CheckedExpr::Nvl { first, second } => match value_of(alloc, first.get(), row)? {
+            Value::Null => value_of(alloc, second.get(), row),
+            value => Ok(value),
+        },
+        CheckedExpr::If {
+            condition,
+            holds: chosen,
+            fails,
+        } => {
+            if holds(&value_of(alloc, condition.get(), row)?) {
+                value_of(alloc, chosen.get(), row)
+            } else {
+                value_of(alloc, fails.get(), row)
+            }
+        }
+        CheckedExpr::In { .. } => of_operand(alloc, expr, row),
+        CheckedExpr::Between { .. } => of_operand(alloc, expr, row),
+        CheckedExpr::Round { .. } => of_operand(alloc, expr, row),
+        CheckedExpr::Substr { .. } => of_text(alloc, expr, row),
+        CheckedExpr::Replace { .. } => of_text(alloc, expr, row),
+        CheckedExpr::Matches { .. } => of_operand(alloc, expr, row),
+        CheckedExpr::OfSort { operand, .. } => value_of(alloc, operand.get(), row),
+        CheckedExpr::Aggregate {
+            function,
+            component,
+        } => row.aggregated(alloc, *function, *component),
+        CheckedExpr::CountAll => Ok(row.counted()),
+    }
+}
+
+/// The value of an expression with one operand.
+#[cycle(values)]
+fn of_operand<R: Row>(alloc: Global, expr: &CheckedExpr, row: &R) -> Result<Value, EvalStop>
+    requires { shape_of expr.now ≡ one_operand }
+    ensures { IsMeant (meaning (R.values row.now) expr.now) result }
+{
+    match expr {
+        CheckedExpr::Widened(operand) => Ok(widened(value_of(alloc, operand.get(), row)?)),
+        CheckedExpr::Unary { operator, operand } => {
+            let value = value_of(alloc, operand.get(), row)?;
+            unary(alloc, *operator, &value)
+        }
+        CheckedExpr::In { operand, sign, set } => {
+            let value = value_of(alloc, operand.get(), row)?;
+            Ok(membership(*sign, set.as_slice(), &value))
+        }
+        CheckedExpr::Between { operand, low, high } => {
+            let value = value_of(alloc, operand.get(), row)?;
+            Ok(between(&value, low, high))
+        }
+        CheckedExpr::Round {
+            function,
+            operand,
+            digits,
+        } => {
+            let value = value_of(alloc, operand.get(), row)?;
+            Ok(rounded(*function, digits, &value))
+        }
+        CheckedExpr::Matches { operand, pattern } => {
+            let value = value_of(alloc, operand.get(), row)?;
+            Ok(matching(pattern, &value)?)
+        }
+        _ => unreachable!(),
+    }
+}
+
+/// The value of an expression that makes a text of operands, of which some may be left out.
+#[cycle(values)]
+fn of_text<R: Row>(alloc: Global, expr: &CheckedExpr, row: &R) -> Result<Value, EvalStop>
+    requires { shape_of expr.now ≡ on_texts }
+    ensures { IsMeant (meaning (R.values row.now) expr.now) result }
+{
+    match expr {
+        CheckedExpr::Substr {
+            operand,
+            start,
+            length,
+        } => {
+            let value = value_of(alloc, operand.get(), row)?;
+            let start = given(alloc, start, row)?;
+            let count = given(alloc, length, row)?;
+            Ok(part_of(alloc, &value, &start, &count)?)
+        }
+        CheckedExpr::Replace {
+            operand,
+            pattern,
+            by,
+        } => {
+            let value = value_of(alloc, operand.get(), row)?;
+            let old = value_of(alloc, pattern.get(), row)?;
+            let new = given(alloc, by, row)?;
+            Ok(replacing(alloc, &value, &old, &new)?)
+        }
+        _ => unreachable!(),
+    }
+}
+
+/// The value of an operand that may be left out.
+#[cycle(values)]
+fn given<R: Row>(
+    alloc: Global,
+    operand: &Option<Boxed<CheckedExpr>>,
+    row: &R,
+) -> Result<Option<Value>, EvalStop>
+    ensures { IsMeant (if_given (option_map (meaning (R.values row.now)) operand.now)) result }
+{
+    match operand {
+        Some(operand) => Ok(Some(value_of(alloc, operand.get(), row)?)),
+        None => Ok(None),
+    }
+}
+
+fn component<R: Row>(row: &R, number: u64) -> Result<Value, AllocError>
+    ensures { IfOk result (λ value. value ≡ (R.values row.now).component number) }
+{
+    match row.component(number) {
+        Some(value) => value.copy(),
+        None => Ok(Value::Null),
+    }
+}

@@ -1,0 +1,5 @@
+mod Related
+pub mod Ranges
+mod Fitting
+mod Operators
+pub mod Kept
