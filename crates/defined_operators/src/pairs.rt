@@ -1,6 +1,6 @@
 // Expressions with two others in them.
 ghost use Rattle.std.specs.Prelude.{◌≡◌, IfOk};
-ghost use Rattle.tree_copies.specs.Shapes.{shape_of, two_parts};
+ghost use Rattle.defined_operators.specs.Shapes.{shape_of, two_parts};
 ghost use Rattle.defined_operators.specs.Writers.{writes};
 
 use crate::writer::Writer;

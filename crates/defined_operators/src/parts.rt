@@ -1,6 +1,6 @@
 // Expressions of the kinds that have few parts.
 ghost use Rattle.std.specs.Prelude.{◌≡◌, IfOk};
-ghost use Rattle.tree_copies.specs.Shapes.{shape_of, no_part, one_part, part_and_words, two_parts};
+ghost use Rattle.defined_operators.specs.Shapes.{shape_of, no_part, one_part, part_and_words, two_parts};
 ghost use Rattle.defined_operators.specs.Writers.{writes};
 
 use crate::writer::Writer;

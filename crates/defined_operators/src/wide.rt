@@ -1,6 +1,6 @@
 // Expressions with several others in them, or with a clause; joins and checks.
 ghost use Rattle.std.specs.Prelude.{◌≡◌, IfOk, map};
-ghost use Rattle.tree_copies.specs.Shapes.{shape_of, more_parts, joined, checked};
+ghost use Rattle.defined_operators.specs.Shapes.{shape_of, more_parts, joined, checked};
 ghost use Rattle.defined_operators.specs.Joins.{others_of, clauses_of};
 ghost use Rattle.defined_operators.specs.Writers.{writes, clause_writes, operand_writes};
 

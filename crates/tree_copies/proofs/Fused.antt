@@ -23,7 +23,7 @@ making name call = record { on_Clause = clause_made name call; on_Expr = made na
 
 -- ---- a tree that one level rolls up to
 
-rolled-Clause : (name : Names) (call : Calls) (x : Clause-F Clause Expr Groups Item JoinOperand SubstrRange) → clause_made name call (roll-Clause x) ≡ roll-Clause (over-Clause (making name call) x)
+pub rolled-Clause : (name : Names) (call : Calls) (x : Clause-F Clause Expr Groups Item JoinOperand SubstrRange) → clause_made name call (roll-Clause x) ≡ roll-Clause (over-Clause (making name call) x)
 rolled-Clause name call x = fold-roll-Clause Clause Expr Groups Item JoinOperand SubstrRange roll-Clause (made_step name call) roll-Groups roll-Item roll-JoinOperand roll-SubstrRange x
 
 rolled-Expr : (name : Names) (call : Calls) (x : Expr-F Clause Expr Groups Item JoinOperand SubstrRange) → made name call (roll-Expr x) ≡ made_step name call (over-Expr (making name call) x)

@@ -1,2 +1,4 @@
+pub mod ClausesMade
 pub mod Fused
 pub mod Layers
+pub mod Rounds

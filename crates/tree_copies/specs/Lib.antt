@@ -1,3 +1,4 @@
 pub mod Made
 pub mod Laws
+pub mod Parts
 pub mod Shapes
