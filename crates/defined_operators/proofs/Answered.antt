@@ -1,9 +1,7 @@
--- Scripts that are answered, and lists that grow by one.
-use Rattle.std.proofs.Common.{◌≡◌, ℕ, ◌+◌, ◌<◌, Bool, List, [], ◌∷◌, ◌++◌, length, map, take, get_or, refl, sym, ap, ◌∙◌, subst, add-one}
-use Rattle.std.proofs.Math.Seq.{take-suc}
+-- Scripts that are answered.
+use Rattle.std.proofs.Common.{◌≡◌, List, [], length, map, refl, ap, ◌∙◌, subst}
 use Rattle.std.specs.Prelude.{Result, IfOk}
 use Rattle.std.specs.declared.alloc.AllocError.{AllocError}
-use Rattle.std.proofs.lemmas.List.{map-append}
 use Rattle.vtl_syntax.specs.declared.operator.DefinedOperator.{DefinedOperator}
 use Rattle.vtl_syntax.specs.declared.script.Script.{Script}
 use Rattle.tree_copies.specs.Made.{Names, Calls, made, same_name}
@@ -34,9 +32,3 @@ replaced_answered r s ps ops same none h =
     (ap (λ (ks : List DefinedOperator). script_with (made (bound [] []) (opened ps (length ps))) ks s) none
     ∙ ap (λ (ks : List DefinedOperator). script_with (made (bound [] []) (opened ks (length ks))) [] s) same
     ∙ ap (λ (n : Names). script_with (made n (opened s.operators (length s.operators))) [] s) no_params) h
-
--- one more round
-pub map_next : {A B : Type 0} (f : A → B) (xs : List A) (i : ℕ) (m n : List B) (y : B) (x : A) → i < length xs → m ≡ map f (take i xs) → x ≡ get_or xs i x → y ≡ f x → n ≡ m ++ y ∷ [] → n ≡ map f (take (i + 1) xs)
-map_next f xs i m n y x within before here is put =
-    let more : take (i + 1) xs ≡ take i xs ++ x ∷ [] = ap (λ k. take k xs) (add-one i) ∙ take-suc xs i x within ∙ ap (λ e. take i xs ++ e ∷ []) (sym here) in
-    put ∙ ap (λ k. k ++ y ∷ []) before ∙ ap (λ z. map f (take i xs) ++ z ∷ []) is ∙ sym (ap (map f) more ∙ map-append f (take i xs) (x ∷ []))

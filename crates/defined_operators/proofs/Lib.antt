@@ -1,5 +1,4 @@
 pub mod Answered
-pub mod Joins
 pub mod Sorting
 pub mod Standing
 pub mod Unused

@@ -1,16 +1,11 @@
 -- What a writer makes of a tree.
-use Rattle.std.specs.Prelude.{ℕ, zero, suc, ◌+◌, ◌*◌, Bool, List, [], ◌∷◌, Option, Some, None, map}
+use Rattle.std.specs.Prelude.{ℕ, zero, suc, ◌+◌, ◌*◌, Bool, List, [], ◌∷◌, map}
 use Rattle.vtl_syntax.specs.declared.operator.DefinedOperator.{DefinedOperator}
 use Rattle.vtl_syntax.specs.declared.operator.Param.{Param}
 use Rattle.vtl_syntax.specs.declared.expr.Expr.{Expr, size-Expr}
-use Rattle.vtl_syntax.specs.declared.expr.Clause.{Clause}
-use Rattle.vtl_syntax.specs.declared.expr.Groups.{Groups}
-use Rattle.vtl_syntax.specs.declared.expr.Item.{Item}
-use Rattle.vtl_syntax.specs.declared.expr.JoinOperand.{JoinOperand}
-use Rattle.vtl_syntax.specs.declared.expr.SubstrRange.{SubstrRange}
 use Rattle.defined_operators.specs.declared.writer.Writer.{Writer}
 use Rattle.operator_faults.specs.Outlines.{outlined}
-use Rattle.tree_copies.specs.Made.{Names, Calls, made, clause_made, groups_made, item_made, operand_made, range_made}
+use Rattle.tree_copies.specs.Made.{Names, Calls, made}
 use Rattle.replaced_calls.specs.Replacing.{bound}
 use Rattle.defined_operators.specs.Uses.{stands_in, flags_of, uses_of}
 use Rattle.defined_operators.specs.Callings.{level, called}
@@ -28,30 +23,11 @@ flags w name = flags_of w.operators.now (uses_of w.operators.now (level w.callin
 abbrev pub writes : Writer → Expr → Expr
 writes w = made (names w) (calls w)
 
-abbrev pub clause_writes : Writer → Clause → Clause
-clause_writes w = clause_made (names w) (calls w)
-
-abbrev pub groups_writes : Writer → Groups → Groups
-groups_writes w = groups_made (names w) (calls w)
-
-abbrev pub item_writes : Writer → Item → Item
-item_writes w = item_made (names w) (calls w)
-
-abbrev pub operand_writes : Writer → JoinOperand → JoinOperand
-operand_writes w = operand_made (names w) (calls w)
-
-abbrev pub range_writes : Writer → SubstrRange → SubstrRange
-range_writes w = range_made (names w) (calls w)
-
 -- which parameters stand in an operator's body as it is written
 abbrev pub used_by : Writer → DefinedOperator → List Bool
 used_by w o = map (λ (p : Param). stands_in p.name (outlined (writes w o.body))) o.params
 
 -- ---- how far a writer goes
-
-abbrev pub if_some : {A : Type 0} → (A → ℕ) → Option A → ℕ
-if_some f None = 0
-if_some f (Some x) = f x
 
 -- more than five times the depth of each operator's body
 abbrev pub weight : List DefinedOperator → ℕ

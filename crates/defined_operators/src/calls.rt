@@ -95,7 +95,7 @@ impl Writer<'_> {
                     params: operator.params.as_slice(),
                     arguments: arguments.as_slice(),
                 };
-                inner.write(alloc, &operator.body)
+                Writer::written(alloc, &inner, &operator.body)
             }
             None => kept(name, arguments, place),
         }
@@ -132,7 +132,7 @@ impl Writer<'_> {
         ensures { IfOk result (λ made. made ≡ (if wanted then writes self.now argument.now else left_out place)) }
     {
         if wanted {
-            self.write(alloc, argument)
+            Writer::written(alloc, self, argument)
         } else {
             Ok(Expr::CountAll { place })
         }

@@ -8,16 +8,12 @@
 
 mod calling;
 mod calls;
-mod clauses;
 mod copies;
 pub mod expand;
 mod names;
-mod pairs;
-mod parts;
 mod rulesets;
 mod scripts;
 mod sorts;
 mod trees;
 mod uses;
-mod wide;
 mod writer;

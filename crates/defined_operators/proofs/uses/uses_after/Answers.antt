@@ -1,5 +1,5 @@
 use Rattle.defined_operators.specs.Uses.{used_params, uses_of}
-use Rattle.defined_operators.proofs.Answered.{map_next}
+use Rattle.tree_copies.proofs.Rounds.{map_next}
 use Rattle.defined_operators.proofs.uses.uses_after.Goals as goal
 
 pub loop-operator-preserved : goal.loop-operator-preserved

@@ -1,20 +1,19 @@
 use Rattle.std.proofs.Common.{map, sym, arith, rules}
-use Rattle.defined_operators.specs.Writers.{names, calls, flags, writes}
-use Rattle.defined_operators.proofs.Joins.{joins_made}
+use Rattle.defined_operators.specs.Writers.{flags, writes}
 use Rattle.defined_operators.proofs.Unused.{used-next, body_answered, called_answered}
 use Rattle.defined_operators.proofs.Weights.{body_less}
 use Rattle.defined_operators.proofs.writer.Writer.+written.Goals as goal
 
-pub body_for-write-requires : goal.body_for-write-requires
-body_for-write-requires t c =
+pub body_for-written-requires : goal.body_for-written-requires
+body_for-written-requires t c =
     let less = body_less c.args.self.now.operators.now c.args.name.now c.in-Some.operator.now c.args.left c.args.self.now.calling (sym c.in-Some.ensures) c.requires in
     let d = c.decreases in
     (omega (arith, less, d), tt)
 
 pub body_for-returns-in-Some : goal.body_for-returns-in-Some
 body_for-returns-in-Some t c =
-    body_answered c.write.result c.args.self.now.operators.now c.args.left c.args.name.now c.args.arguments c.args.place c.in-Some.operator.now c.as_slice.result.now c.as_slice-in-Some.result.now
-    (sym c.in-Some.ensures) c.as_slice.ensures c.as_slice-in-Some.ensures c.write.ensures
+    body_answered c.written.result c.args.self.now.operators.now c.args.left c.args.name.now c.args.arguments c.args.place c.in-Some.operator.now c.as_slice.result.now c.as_slice-in-Some.result.now
+    (sym c.in-Some.ensures) c.as_slice.ensures c.as_slice-in-Some.ensures c.written.ensures
 
 pub called-returns : goal.called-returns
 called-returns t c =
@@ -24,7 +23,3 @@ pub used_arguments-loop-i-preserved : goal.used_arguments-loop-i-preserved
 used_arguments-loop-i-preserved t c =
     used-next (writes c.args.self.now) (flags c.args.self.now c.args.name.now) c.args.place c.args.arguments.now c.loop-i.i c.loop-i.made c.push.new.self c.in_ok-argument_if.field-0 c.index-arguments-i.result c.is_used.result
     c.loop-i-test.true c.loop-i.invariant c.index-arguments-i.is (search rules) (search rules) (c.in_ok-push.ensures {u = tt}).ok
-
-pub joined-returns : goal.joined-returns
-joined-returns t c =
-    joins_made (names c.args.self.now) (calls c.args.self.now) c.args.tree.now _ _ _ _ _ _ _ _ _ _ _ _ c.in_ok-clauses.clauses c.in-Join.is (search rules) (search rules) c.in_ok-others.ensures c.in_ok-clauses.ensures
