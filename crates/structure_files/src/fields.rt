@@ -133,7 +133,7 @@ fn codes_of(alloc: Global, path: Path, kind: Kind, values: &[Value]) -> Result<C
     let Kind::Text = kind else {
         return Err(StructureStop::at(Fault::BadCodes, path));
     };
-    let codes = CodeList::of(all_codes(alloc, path, values)?);
+    let codes = CodeList::of(alloc, all_codes(alloc, path, values)?)?;
     if codes.as_slice().is_empty() {
         return Err(StructureStop::at(Fault::BadCodes, path));
     }

@@ -17,6 +17,18 @@ pub enum Codes {
     Listed(CodeList),
 }
 
+impl Codes {
+    /// The same code list, whose codes are shared, or want of memory.
+    pub fn copy(&self) -> Result<Codes, AllocError>
+        ensures { IfOk result (λ codes. codes ≡ self.now) }
+    {
+        Ok(match self {
+            Codes::Any => Codes::Any,
+            Codes::Listed(codes) => Codes::Listed(codes.copy()?),
+        })
+    }
+}
+
 /// A column of a data set.
 #[derive(Debug, Drop)]
 pub struct Component {
@@ -24,6 +36,20 @@ pub struct Component {
     pub role: Role,
     pub kind: Kind,
     pub codes: Codes,
+}
+
+impl Component {
+    /// An equal component, which shares the codes, or want of memory.
+    pub fn copy(&self) -> Result<Component, AllocError>
+        ensures { IfOk result (λ component. component ≡ self.now) }
+    {
+        Ok(Component {
+            name: self.name.copy()?,
+            role: self.role,
+            kind: self.kind,
+            codes: self.codes.copy()?,
+        })
+    }
 }
 
 /// The components of a data set in their order: identifiers, measures, attributes, viral attributes. Contracts see it
