@@ -1,0 +1,12 @@
+use Rattle.typing_rules.specs.Scopes.{kinds_of}
+use Rattle.typing_rules.specs.Scalars as meant
+use Rattle.typing_rules.proofs.Sound.{sort-typed}
+use Rattle.component_typing.proofs.Steps.{answers_after, answers_as}
+use Rattle.component_typing.proofs.checker.Checker.of_sort.Goals as goal
+
+pub returns : goal.returns
+returns g c =
+    let kinds = kinds_of c.args.self.now.scope.now.columns c.args.self.now.basis in
+    let a = c.in_ok-operand.operand in
+    answers_after kinds (meant.typed c.args.self.now.scope.now c.args.self.now.basis c.args.operand.now) (meant.sort_typed c.args.sort c.args.place) a c.sort_typed.result c.in_ok-operand.ensures.ok
+    (answers_as kinds (meant.sort_typed c.args.sort c.args.place a) c.sort_typed.result c.sort_typed.ensures.ok c.sort_typed.ensures.err (sort-typed kinds c.args.sort c.args.place a c.sort_typed.result c.sort_typed.ensures.ok c.in_ok-operand.ensures.typed))
