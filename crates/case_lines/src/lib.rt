@@ -11,7 +11,7 @@ use std::alloc::Global;
 use std::rt::{Env, Files};
 use std::{env, fs};
 
-/// Answers the cases of each file that the program's words name.
+/// Answers the cases of each file that the program's words name. An error names the line that has no answer.
 pub fn answer_files<R, F>(rt: &R, answer: &F) -> Result<()>
 where
     R: AllocGlobal + Env + Files + Print,
@@ -20,28 +20,40 @@ where
 {
     for name in env::args(rt)?.skip(1) {
         let text = fs::read_to_string(rt, name.as_str())?;
-        answer_lines(rt, text.as_str(), answer)?;
+        answer_lines(rt, name.as_str(), text.as_str(), answer)?;
     }
     Ok(())
 }
 
 // Writes the rule, and each case with its answer.
-fn answer_lines<R, F>(rt: &R, text: &str, answer: &F) -> Result<()>
+fn answer_lines<R, F>(rt: &R, name: &str, text: &str, answer: &F) -> Result<()>
 where
     R: AllocGlobal + Print,
     F: Fn(Global, &str, &[Value]) -> Result<String>,
     requires { F.IsAlwaysCallable answer.now }
 {
-    for line in text.lines() {
-        if line.starts_with('[') {
-            let case = Value::from_str(rt.alloc(), line)?;
-            let words = items(&case)?;
-            let answered = answer(rt.alloc(), text_at(words, 0)?, words)?;
-            println!(rt; "{line} -> {answered}")?;
-        } else {
-            println!(rt; "{line}")?;
-        }
+    for (before, line) in text.lines().enumerate() {
+        let number = before.saturating_add(1);
+        answer_line(rt, line, answer).context(format_args!("{name}, line {number}"))?;
     }
+    Ok(())
+}
+
+// Writes a line, and after it its answer if it is a case.
+fn answer_line<R, F>(rt: &R, line: &str, answer: &F) -> Result<()>
+where
+    R: AllocGlobal + Print,
+    F: Fn(Global, &str, &[Value]) -> Result<String>,
+    requires { F.IsAlwaysCallable answer.now }
+{
+    if !line.starts_with('[') {
+        println!(rt; "{line}")?;
+        return Ok(());
+    }
+    let case = Value::from_str(rt.alloc(), line)?;
+    let words = items(&case)?;
+    let answered = answer(rt.alloc(), text_at(words, 0)?, words)?;
+    println!(rt; "{line} -> {answered}")?;
     Ok(())
 }
 
