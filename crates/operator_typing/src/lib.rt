@@ -19,7 +19,7 @@ mod texts;
 pub use choices::{function_typed, if_typed, nvl_typed};
 pub use groups::{aggregate_typed, count_at};
 pub use leaves::{component_typed, literal_typed};
-pub use names::{member, named};
+pub use names::{bare_number, member, member_number, named};
 pub use numbers::round_typed;
 pub use operands::{Agreed, agreeing, joint, wanted, wanted_if, widened};
 pub use scopes::scope_of;

@@ -46,8 +46,8 @@ fn any_number(names: &[ScopeName], name: &Word) -> Option<u64>
         .map(|entry| entry.number)
 }
 
-/// The number of the component that is called so by an operand of this alias.
-fn member_number(names: &[ScopeName], alias: &Word, name: &Word) -> Option<u64>
+/// The number of the component that `alias#name` stands for, if there is one.
+pub fn member_number(names: &[ScopeName], alias: &Word, name: &Word) -> Option<u64>
     ensures { result ≡ meant.first_number (meant.is_member alias.now name.now) names.now }
 {
     names
@@ -56,8 +56,9 @@ fn member_number(names: &[ScopeName], alias: &Word, name: &Word) -> Option<u64>
         .map(|entry| entry.number)
 }
 
-/// The number of the component that a bare name stands for.
-fn bare_number(names: &[ScopeName], name: &Word) -> Option<u64>
+/// The number of the component that a bare name stands for, if there is one: the one that is called exactly so, or else
+/// the only one that is called so by an operand of a join.
+pub fn bare_number(names: &[ScopeName], name: &Word) -> Option<u64>
     ensures { result ≡ meant.bare_number names.now name.now }
 {
     if let Some(number) = exact_number(names, name) {

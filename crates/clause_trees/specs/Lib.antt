@@ -1,0 +1,4 @@
+pub mod Frames
+pub mod After
+pub mod Clauses
+pub mod Laws

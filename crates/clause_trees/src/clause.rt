@@ -1,0 +1,53 @@
+// Checked clauses.
+use scalar_trees::CheckedExpr;
+use sqlite_items::Items;
+use vtl_values::{Kind, Role, Value, Word};
+
+/// A clause whose names are numbers of components of the frame that it works on.
+#[derive(Drop)]
+pub enum CheckedClause {
+    /// Keeps the points at which the condition is true.
+    Filter { condition: CheckedExpr },
+    /// Works out components, all of them on the point as it was.
+    Calc { items: Items<CheckedItem> },
+    /// Keeps these components, the identifiers and the viral attributes.
+    Keep { components: Items<u64> },
+    /// Keeps all components but these.
+    Drop { components: Items<u64> },
+    /// Gives components other names, all at once.
+    Rename { renames: Items<CheckedRename> },
+    /// Keeps the points whose identifiers have these values, and drops these identifiers.
+    Sub { items: Items<CheckedSubItem> },
+    /// Makes a point for each point and measure that isn't null, with the measure's name and its value.
+    Unpivot { identifier: Word, measure: Word },
+}
+
+/// What an item of `calc` is put into: the component with this number, or a new one of this name.
+#[derive(Debug, Drop)]
+pub enum Target {
+    Old(u64),
+    New(Word),
+}
+
+/// An item of `calc`: the role and the kind that its target has afterwards, and its value.
+#[derive(Drop)]
+pub struct CheckedItem {
+    pub target: Target,
+    pub role: Role,
+    pub kind: Kind,
+    pub value: CheckedExpr,
+}
+
+/// The component with this number, and its new name.
+#[derive(Debug, Drop)]
+pub struct CheckedRename {
+    pub component: u64,
+    pub name: Word,
+}
+
+/// The identifier with this number, and the value that it has to have. Integers and numbers are compared as numbers.
+#[derive(Debug, Drop)]
+pub struct CheckedSubItem {
+    pub component: u64,
+    pub value: Value,
+}

@@ -1,0 +1,21 @@
+use Rattle.std.proofs.Common.{◌≡◌, List, Bool, [], ◌∷◌, ap, ◌∙◌}
+use Rattle.typing_rules.specs.declared.stop.Fault.{Fault}
+use Rattle.typing_rules.specs.declared.stop.Fault.TheVariants.{WrongRole, NameTwice, TooManyComponents}
+use Rattle.clause_trees.specs.declared.clause.CheckedClause.TheVariants as clause
+use Rattle.clause_trees.specs.After.{calculated}
+use Rattle.clause_trees.specs.Clauses.{may_calculate, targets_differ, has_room}
+use Rattle.clause_typing.proofs.Demanding.{refuses}
+use Rattle.clause_typing.proofs.calc.calc_typed.Goals as goal
+
+pub returns-in_err-demands-clause-err : goal.returns-in_err-demands-clause-err
+returns-in_err-demands-clause-err c =
+    let frame = c.args.frame.now in
+    let items = c.args.items in
+    let fit : c.may_calculate-fit.result ≡ may_calculate frame items = c.may_calculate-fit.ensures ∙ ap (may_calculate frame) c.as_slice-all.ensures in
+    let once : c.targets_differ-once.result ≡ targets_differ items = c.targets_differ-once.ensures ∙ ap targets_differ c.as_slice-all.ensures in
+    let room : c.in_ok-room.room ≡ has_room (calculated items frame) = c.in_ok-room.ensures ∙ ap (λ is. has_room (calculated is frame)) c.as_slice-all.ensures in
+    let given : List (Bool × Fault) = (c.may_calculate-fit.result, WrongRole) ∷ (c.targets_differ-once.result, NameTwice) ∷ (c.in_ok-room.room, TooManyComponents) ∷ [] in
+    let meant : List (Bool × Fault) = (may_calculate frame items, WrongRole) ∷ (targets_differ items, NameTwice) ∷ (has_room (calculated items frame), TooManyComponents) ∷ [] in
+    refuses c.args.place given meant (clause.Calc items) c.from_residual-in_err-demands.result c.in_err-demands.field-0.0
+    (λ i. (fit i, WrongRole) ∷ (once i, NameTwice) ∷ (room i, TooManyComponents) ∷ [])
+    c.in_err-demands.ensures.err c.from_residual-in_err-demands.ensures.1

@@ -1,0 +1,119 @@
+// `calc`.
+ghost use Rattle.std.specs.Prelude.{◌≡◌, Ok, IfOk, IfErr};
+ghost use Rattle.typing_rules.specs.Steps.{Refuses};
+ghost use Rattle.clause_trees.specs.After.{calculated};
+ghost use Rattle.clause_trees.specs.Clauses as meant;
+
+use crate::after::calculate;
+use crate::choices::may_go;
+use crate::demands::{demands, has_room};
+use crate::differ::targets_differ;
+use crate::names::bare_number_of;
+use crate::parts::copy_frame;
+use clause_trees::{CheckedClause, CheckedItem, Frame, Target};
+use sqlite_items::Items;
+use std::alloc::{AllocError, Global};
+use typing_rules::{Fault, TypeStop, Typed};
+use vtl_syntax::words::ItemRole;
+use vtl_values::{Kind, Place, Role, Word};
+
+fn target_of(number: Option<u64>, name: &Word) -> Result<Target, AllocError>
+    ensures { IfOk result (λ target. target ≡ meant.target_of number name.now) }
+{
+    match number {
+        Some(number) => Ok(Target::Old(number)),
+        None => Ok(Target::New(name.copy()?)),
+    }
+}
+
+fn old_role(frame: &Frame, number: Option<u64>) -> Option<Role>
+    ensures { result ≡ meant.old_role frame.now number }
+{
+    let number = number?;
+    match frame.components.get(number as usize) {
+        Some(component) => Some(component.role),
+        None => None,
+    }
+}
+
+fn role_of(stated: Option<ItemRole>, old: Option<Role>) -> Role
+    ensures { result ≡ meant.role_of stated old }
+{
+    match stated {
+        Some(ItemRole::Measure) => Role::Measure,
+        Some(ItemRole::Attribute) => Role::Attribute,
+        None => old.unwrap_or(Role::Measure),
+    }
+}
+
+/// An item of `calc` by its head and its value, or want of memory. Its target is the component that the bare name stands
+/// for, or else a new one; its role is the one that is stated, or else the target's, or else measure. As a whole item the
+/// literal null is a string.
+pub fn item_typed(
+    frame: &Frame,
+    stated: Option<ItemRole>,
+    name: &Word,
+    value: Typed,
+) -> Result<CheckedItem, AllocError>
+    ensures { IfOk result (λ item. item ≡ meant.item_typed frame.now stated name.now value) }
+{
+    let number = bare_number_of(frame, name);
+    let Typed { tree, kind } = value;
+    Ok(CheckedItem {
+        target: target_of(number, name)?,
+        role: role_of(stated, old_role(frame, number)),
+        kind: kind.unwrap_or(Kind::Text),
+        value: tree,
+    })
+}
+
+fn may_be_target(frame: &Frame, target: &Target) -> bool
+    ensures { result ≡ meant.may_be_target frame.now target.now }
+{
+    match target {
+        Target::Old(number) => may_go(frame, *number),
+        Target::New(_) => true,
+    }
+}
+
+fn may_calculate(frame: &Frame, items: &[CheckedItem]) -> bool
+    ensures { result ≡ meant.may_calculate frame.now items.now }
+{
+    items.iter().all(|item| may_be_target(frame, &item.target))
+}
+
+/// Whether the result may have as many components, or want of memory.
+fn has_room_for(alloc: Global, frame: &Frame, items: &[CheckedItem]) -> Result<bool, AllocError>
+    ensures { IfOk result (λ room. room ≡ meant.has_room (calculated items.now frame.now)) }
+{
+    let mut after = copy_frame(alloc, frame)?;
+    calculate(&mut after, items)?;
+    Ok(has_room(&after))
+}
+
+/// `calc items`, of items that `item_typed` made of this frame; `WrongRole` where a target is an identifier or a viral
+/// attribute, else `NameTwice` where two items have one target, else `TooManyComponents` where the result would have more
+/// than 64, or want of memory. It costs the square of the number of items.
+pub fn calc_typed(
+    alloc: Global,
+    place: Place,
+    items: Items<CheckedItem>,
+    frame: &Frame,
+) -> Result<CheckedClause, TypeStop>
+    ensures ok { IfOk result (λ clause. meant.calc_typed place items frame.now ≡ Ok clause) }
+    ensures err { IfErr result (Refuses (meant.calc_typed place items frame.now)) }
+{
+    let all = items.as_slice();
+    let fit = may_calculate(frame, all);
+    let once = targets_differ(all);
+    let room = has_room_for(alloc, frame, all)?;
+    demands(
+        place,
+        &[
+            (fit, Fault::WrongRole),
+            (once, Fault::NameTwice),
+            (room, Fault::TooManyComponents),
+        ],
+    )?;
+    Ok(CheckedClause::Calc { items })
+}

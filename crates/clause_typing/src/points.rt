@@ -1,0 +1,23 @@
+// `filter`.
+ghost use Rattle.std.specs.Prelude.{◌≡◌, Ok, IfOk, IfErr};
+ghost use Rattle.typing_rules.specs.Steps.{Refuses};
+ghost use Rattle.clause_trees.specs.Clauses as meant;
+
+use clause_trees::CheckedClause;
+use operator_typing::wanted;
+use std::alloc::Global;
+use typing_rules::{TypeStop, Typed};
+use vtl_values::{Kind, Place};
+
+/// `filter condition`; `WrongType` where the condition is no boolean, which the literal null is, or want of memory.
+pub fn filter_typed(
+    alloc: Global,
+    place: Place,
+    condition: Typed,
+) -> Result<CheckedClause, TypeStop>
+    ensures ok { IfOk result (λ clause. meant.filter_typed place condition ≡ Ok clause) }
+    ensures err { IfErr result (Refuses (meant.filter_typed place condition)) }
+{
+    let condition = wanted(alloc, place, Kind::Truth, condition)?;
+    Ok(CheckedClause::Filter { condition })
+}
