@@ -1,0 +1,4 @@
+pub mod Workings
+pub mod Clauses
+pub mod Examples
+pub mod Ordered
