@@ -39,6 +39,7 @@ few_keys (clause.Sub items) frame a h =
     let same = length-map (filter (has_values items) (keys a)) (key_left items frame) in
     omega (arith, all, some, same)
 few_keys (clause.Unpivot identifier measure) frame a h = cc
+few_keys (clause.Measures items) frame a h = let all = length-keys a in omega (arith, all)
 
 -- a result has no more points than keys are listed
 result-few : (w : Working) (m : DataSet) → IsCovered w → IsResult {R = key_cmp} w.beyond w.value m → len m ≤ length w.keys

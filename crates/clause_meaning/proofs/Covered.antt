@@ -94,6 +94,7 @@ covered (clause.Drop numbers) frame a = point_by_point-covered _ _ a
 covered (clause.Rename renames) frame a = point_by_point-covered _ _ a
 covered (clause.Sub items) frame a = sub-covered items frame a
 covered (clause.Unpivot identifier measure) frame a = unpivot-covered frame a
+covered (clause.Measures items) frame a = point_by_point-covered _ _ a
 
 abbrev pub IsMeant : Working → Type 0
 IsMeant w = IsOutcome {R = key_cmp} w.beyond w.value (outcome_of w)
@@ -120,3 +121,4 @@ meaning-empty (clause.Drop numbers) frame = nowhere (working_of (clause.Drop num
 meaning-empty (clause.Rename renames) frame = nowhere (working_of (clause.Rename renames) frame empty) no_keys no_keys
 meaning-empty (clause.Sub items) frame = nowhere (working_of (clause.Sub items) frame empty) no_keys (ap (λ ks. map (key_left items frame) (filter (has_values items) ks)) no_keys)
 meaning-empty (clause.Unpivot identifier measure) frame = nowhere (working_of (clause.Unpivot identifier measure) frame empty) no_keys (ap (flat_map (λ key. map (key_with_name key) (measures frame.components))) no_keys)
+meaning-empty (clause.Measures items) frame = nowhere (working_of (clause.Measures items) frame empty) no_keys no_keys

@@ -18,9 +18,10 @@ use Rattle.scalar_meaning.specs.Rows.{point_row}
 use Rattle.clause_trees.specs.declared.frame.Frame.{Frame}
 use Rattle.clause_trees.specs.declared.clause.CheckedClause.TheVariants as clause
 use Rattle.clause_trees.specs.declared.clause.CheckedItem.{CheckedItem}
+use Rattle.clause_trees.specs.declared.clause.CheckedMeasure.{CheckedMeasure}
 use Rattle.clause_trees.specs.declared.clause.CheckedSubItem.{CheckedSubItem}
 use Rattle.clause_meaning.specs.Workings.{Working, outcome_of, point_by_point}
-use Rattle.clause_meaning.specs.Clauses.{is_true_at, item_values, calculated_values, has_values, key_left, comes_to, measure_point, without_last, working_of, clause_meaning}
+use Rattle.clause_meaning.specs.Clauses.{is_true_at, item_values, calculated_values, worked_values, with_viral_values, has_values, key_left, comes_to, measure_point, without_last, working_of, clause_meaning}
 use Rattle.clause_meaning.proofs.Lists.{found, last-pushed, before-pushed}
 use Rattle.clause_meaning.proofs.Covered.{IsMeant, meant, covered-meant, point_by_point-covered}
 
@@ -45,6 +46,9 @@ worked_out (Some x) f h = refl
 module _ (frame : Frame) (a y : DataSet) where
   pub calc-keys : (items : List CheckedItem) → clause_meaning (clause.Calc items) frame a ≡ Made y → (key : List Value) → is_some (get y key) ≡ is_some (get a key)
   calc-keys items = same_keys _ _ a y (λ key rest h. worked_out (item_values (point_row key rest) items) (calculated_values items frame (key ++ rest)) h)
+
+  pub measures-keys : (items : List CheckedMeasure) → clause_meaning (clause.Measures items) frame a ≡ Made y → (key : List Value) → is_some (get y key) ≡ is_some (get a key)
+  measures-keys items = same_keys _ _ a y (λ key rest h. worked_out (worked_values (point_row key rest) items) (with_viral_values frame (key ++ rest)) h)
 
   pub filter-is : (condition : CheckedExpr) → clause_meaning (clause.Filter condition) frame a ≡ Made y → y ≡ filtered (is_true_at condition) a
   filter-is condition e =

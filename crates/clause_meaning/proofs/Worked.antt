@@ -25,8 +25,8 @@ use Rattle.scalar_meaning.specs.Rows.{Row, point_row}
 use Rattle.scalar_meaning.specs.Scalars.{meaning_step, meaning}
 use Rattle.clause_trees.specs.declared.clause.CheckedClause.TheVariants as clause
 use Rattle.clause_meaning.specs.Workings.{Working, outcome_of}
-use Rattle.clause_meaning.specs.Clauses.{item_values, working_of, clause_meaning}
-use Rattle.clause_meaning.specs.Examples.{frame, people, north, south, counts, many_men, year_one, moved, multiplied, boys, women, by_sex}
+use Rattle.clause_meaning.specs.Clauses.{item_values, worked_values, working_of, clause_meaning}
+use Rattle.clause_meaning.specs.Examples.{frame, people, north, south, counts, many_men, year_one, moved, multiplied, boys, doubled, women, by_sex}
 
 few : (n : ℕ) → n ≤ POINT_LIMIT → nat_le n POINT_LIMIT ≡ true
 few n h = elim (cases_Bool (nat_le n POINT_LIMIT)) [
@@ -108,6 +108,14 @@ multiplied_in_south : item_values south_row multiplied ≡ None
 unfolding integer_of
 multiplied_in_south = rw (binary-is south_row binary.Times 3 (Integer (pos 120000000000000))) refl
 
+doubled_in_north : worked_values north_row doubled ≡ Some (Integer (pos 10) ∷ Integer (pos 14) ∷ [])
+unfolding integer_of
+doubled_in_north = rw (binary-is north_row binary.Times 2 (Integer (pos 2)), binary-is north_row binary.Times 3 (Integer (pos 2))) refl
+
+doubled_in_south : worked_values south_row doubled ≡ Some (Null ∷ Integer (pos 18) ∷ [])
+unfolding integer_of
+doubled_in_south = rw (binary-is south_row binary.Times 2 (Integer (pos 2)), binary-is south_row binary.Times 3 (Integer (pos 2))) refl
+
 -- ---- clauses
 
 -- what comes of them
@@ -119,6 +127,9 @@ without_year = (Text (codes "n") ∷ [], north_counts) ∷ []
 
 abbrev worked : List (List Value × List Value)
 worked = (north, Integer (pos 7) ∷ Integer (pos 7) ∷ Integer (pos 5) ∷ Text (codes "p") ∷ []) ∷ (south, Integer (pos 9) ∷ Integer (pos 9) ∷ Null ∷ Null ∷ []) ∷ []
+
+abbrev twice : List (List Value × List Value)
+twice = (north, Integer (pos 10) ∷ Integer (pos 14) ∷ Text (codes "p") ∷ []) ∷ (south, Null ∷ Integer (pos 18) ∷ Null ∷ []) ∷ []
 
 -- on any data set with these points
 module _ (a : DataSet) (listed : keys a ≡ north ∷ south ∷ []) (first : get a north ≡ Some north_counts) (second : get a south ≡ Some south_counts) where
@@ -146,6 +157,9 @@ module _ (a : DataSet) (listed : keys a ≡ north ∷ south ∷ []) (first : get
   unpivot-on : clause_meaning (clause.Unpivot (codes "sex") (codes "count")) frame a ≡ made (from_entries by_sex)
   unpivot-on = gives-points (working_of (clause.Unpivot (codes "sex") (codes "count")) frame a) by_sex (rw listed refl) (rw listed (omega arith)) (rw (listed, first, second) refl)
 
+  measures-on : clause_meaning (clause.Measures doubled) frame a ≡ made (from_entries twice)
+  measures-on = gives-points (working_of (clause.Measures doubled) frame a) twice (rw (listed, first, second, doubled_in_north, doubled_in_south) refl) (rw listed (omega arith)) (rw (listed, first, second, doubled_in_north, doubled_in_south) refl)
+
 -- on the data set
 pub filter-people : clause_meaning (clause.Filter many_men) frame people ≡ made (from_entries ((north, Integer (pos 5) ∷ Integer (pos 7) ∷ Text (codes "p") ∷ []) ∷ []))
 filter-people = filter-on people two_keys in_north in_south
@@ -170,3 +184,6 @@ rename-people = rename-on people two_keys in_north in_south
 
 pub unpivot-people : clause_meaning (clause.Unpivot (codes "sex") (codes "count")) frame people ≡ made (from_entries by_sex)
 unpivot-people = unpivot-on people two_keys in_north in_south
+
+pub measures-people : clause_meaning (clause.Measures doubled) frame people ≡ made (from_entries ((north, Integer (pos 10) ∷ Integer (pos 14) ∷ Text (codes "p") ∷ []) ∷ (south, Null ∷ Integer (pos 18) ∷ Null ∷ []) ∷ []))
+measures-people = measures-on people two_keys in_north in_south

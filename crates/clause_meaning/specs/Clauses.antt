@@ -25,6 +25,7 @@ use Rattle.clause_trees.specs.declared.frame.Frame.{Frame}
 use Rattle.clause_trees.specs.declared.clause.CheckedClause.{CheckedClause}
 use Rattle.clause_trees.specs.declared.clause.CheckedClause.TheVariants as clause
 use Rattle.clause_trees.specs.declared.clause.CheckedItem.{CheckedItem}
+use Rattle.clause_trees.specs.declared.clause.CheckedMeasure.{CheckedMeasure}
 use Rattle.clause_trees.specs.declared.clause.CheckedSubItem.{CheckedSubItem}
 use Rattle.clause_trees.specs.declared.clause.Target.{Target}
 use Rattle.clause_trees.specs.declared.clause.Target.TheVariants.{Old, New}
@@ -48,10 +49,14 @@ filter_working condition a = point_by_point (λ key rest. is_none (meaning (poin
 
 -- ---- calc
 
+-- the values of all expressions on a row, none where one is out of range
+abbrev pub values_on : Row → List CheckedExpr → Option (List Value)
+values_on row [] = Some []
+values_on row (e ∷ es) = option_map (λ p. p.0 ∷ p.1) (option_zip (meaning row e) (values_on row es))
+
 -- the values of all items on a row, none where one is out of range
 abbrev pub item_values : Row → List CheckedItem → Option (List Value)
-item_values row [] = Some []
-item_values row (i ∷ is) = option_map (λ p. p.0 ∷ p.1) (option_zip (meaning row i.value) (item_values row is))
+item_values row items = values_on row (map (λ i. i.value) items)
 
 -- the value of a target is that of its component; where the component is new it comes after all others
 abbrev pub put_value : Target → Value → List Value → List Value
@@ -144,6 +149,20 @@ unpivoted_at frame a key = option_and_then (λ name. option_and_then (λ rest. m
 abbrev pub unpivot_working : Frame → DataSet → Working
 unpivot_working frame a = record { evaluated = keys a; beyond = λ key. false; keys = flat_map (λ key. map (key_with_name key) (measures frame.components)) (keys a); value = unpivoted_at frame a }
 
+-- ---- measures in place of those that there are
+
+-- the values of the measures that are worked out, none where one is out of range
+abbrev pub worked_values : Row → List CheckedMeasure → Option (List Value)
+worked_values row items = values_on row (map (λ i. i.value) items)
+
+-- these values, and then those of the viral attributes
+abbrev pub with_viral_values : Frame → List Value → List Value → List Value
+with_viral_values frame values vs = vs ++ values_at (numbers_of Viral frame.components) values
+
+-- each point with its measures worked out on the point as it was; out of range where one of them is
+abbrev pub measures_working : List CheckedMeasure → Frame → DataSet → Working
+measures_working items frame a = point_by_point (λ key rest. is_none (worked_values (point_row key rest) items)) (λ key rest. option_map (with_viral_values frame (key ++ rest)) (worked_values (point_row key rest) items)) a
+
 -- ---- a clause
 
 -- on a data set of the frame's components
@@ -155,6 +174,7 @@ working_of (clause.Drop numbers) frame a = staying_working (is_left numbers) fra
 working_of (clause.Rename renames) frame a = rename_working a
 working_of (clause.Sub items) frame a = sub_working items frame a
 working_of (clause.Unpivot identifier measure) frame a = unpivot_working frame a
+working_of (clause.Measures items) frame a = measures_working items frame a
 
 -- what the clause gives
 abbrev pub clause_meaning : CheckedClause → Frame → DataSet → Outcome key_cmp (List Value)

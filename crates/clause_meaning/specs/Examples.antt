@@ -1,5 +1,5 @@
 -- A small data set, on which clauses are worked: how many men and women there are, by area and year.
-use Rattle.std.specs.Prelude.{pos, List, [], ◌∷◌, codes}
+use Rattle.std.specs.Prelude.{ℕ, pos, List, [], ◌∷◌, codes}
 use Rattle.std.specs.FinMap.{from_entries}
 use Rattle.vtl_values.specs.declared.kind.Kind.TheVariants as kind
 use Rattle.vtl_values.specs.declared.kind.Role.TheVariants.{Identifier, Measure, Viral}
@@ -13,6 +13,7 @@ use Rattle.scalar_trees.specs.declared.tree.CheckedExpr.{CheckedExpr}
 use Rattle.scalar_trees.specs.declared.tree.CheckedExpr.TheVariants as expr
 use Rattle.clause_trees.specs.declared.frame.Frame.{Frame}
 use Rattle.clause_trees.specs.declared.clause.CheckedItem.{CheckedItem}
+use Rattle.clause_trees.specs.declared.clause.CheckedMeasure.{CheckedMeasure}
 use Rattle.clause_trees.specs.declared.clause.CheckedRename.{CheckedRename}
 use Rattle.clause_trees.specs.declared.clause.CheckedSubItem.{CheckedSubItem}
 use Rattle.clause_trees.specs.declared.clause.Target.TheVariants.{Old, New}
@@ -59,6 +60,13 @@ multiplied = record { target = Old 2; role = Measure; kind = kind.Integer; value
 -- `men to boys`
 abbrev pub boys : List CheckedRename
 boys = record { component = 2; name = codes "boys" } ∷ []
+
+-- `men * 2, women * 2`
+abbrev pub doubled : List CheckedMeasure
+doubled = twice (codes "men") 2 ∷ twice (codes "women") 3 ∷ []
+  where
+    twice : List ℕ → ℕ → CheckedMeasure
+    twice name number = record { name = name; kind = kind.Integer; value = expr.Binary binary.Times (expr.Component number) (expr.Literal (Integer (pos 2))) }
 
 -- the points with women and status alone
 abbrev pub women : List (List Value × List Value)

@@ -5,7 +5,7 @@ ghost use Rattle.vtl_values.specs.declared.value.Value.TheVariants.{Null, Intege
 ghost use Rattle.data_model.specs.Outcomes.{made, range_at};
 ghost use Rattle.clause_trees.specs.declared.clause.CheckedClause.TheVariants as clause;
 ghost use Rattle.clause_meaning.specs.Clauses.{clause_meaning};
-ghost use Rattle.clause_meaning.specs.Examples.{frame, people, north, south, many_men, year_one, moved, multiplied, boys, women, by_sex};
+ghost use Rattle.clause_meaning.specs.Examples.{frame, people, north, south, many_men, year_one, moved, multiplied, boys, doubled, women, by_sex};
 
 /// `filter` drops a point at which its condition is null. `sub` finds the integer 1 by the number 1.0, and drops the
 /// year from the key.
@@ -37,4 +37,12 @@ pub fn components_are_left()
 pub fn measures_become_points()
     ensures { clause_meaning (clause.Unpivot (codes "sex") (codes "count")) frame people ≡
         made (from_entries by_sex) }
+{}
+
+/// Doubled on the data set, each measure has twice its value, and null stays null; the status stays.
+pub fn measures_are_worked_out()
+    ensures { clause_meaning (clause.Measures doubled) frame people ≡
+        made (from_entries (
+        (north, Integer (pos 10) ∷ Integer (pos 14) ∷ Text (codes "p") ∷ []) ∷
+        (south, Null ∷ Integer (pos 18) ∷ Null ∷ []) ∷ [])) }
 {}

@@ -13,6 +13,7 @@ ghost use Rattle.scalar_trees.specs.declared.tree.CheckedExpr.{CheckedExpr};
 ghost use Rattle.clause_trees.specs.declared.clause.CheckedClause.{CheckedClause};
 ghost use Rattle.clause_trees.specs.declared.clause.CheckedClause.TheVariants as clause;
 ghost use Rattle.clause_trees.specs.declared.clause.CheckedItem.{CheckedItem};
+ghost use Rattle.clause_trees.specs.declared.clause.CheckedMeasure.{CheckedMeasure};
 ghost use Rattle.clause_trees.specs.declared.clause.CheckedRename.{CheckedRename};
 ghost use Rattle.clause_trees.specs.declared.clause.CheckedSubItem.{CheckedSubItem};
 ghost use Rattle.clause_trees.specs.declared.frame.Frame.{Frame};
@@ -33,7 +34,8 @@ pub fn nothing_comes_of_nothing()
     ensures { (c : CheckedClause) (frame : Frame) → clause_meaning c frame empty ≡ Made empty }
 {}
 
-/// `calc`, `keep`, `drop` and `rename` give points at exactly the keys of their operand.
+/// `calc`, `keep`, `drop` and `rename`, and measures that are worked out in place of others, give points at exactly the
+/// keys of their operand.
 pub fn keys_are_kept()
     ensures calc { (items : List CheckedItem) (frame : Frame) (a y : DataSet) →
         clause_meaning (clause.Calc items) frame a ≡ Made y → (key : List Value) →
@@ -46,6 +48,9 @@ pub fn keys_are_kept()
         is_some (get y key) ≡ is_some (get a key) }
     ensures rename { (renames : List CheckedRename) (frame : Frame) (a y : DataSet) →
         clause_meaning (clause.Rename renames) frame a ≡ Made y → (key : List Value) →
+        is_some (get y key) ≡ is_some (get a key) }
+    ensures measures { (items : List CheckedMeasure) (frame : Frame) (a y : DataSet) →
+        clause_meaning (clause.Measures items) frame a ≡ Made y → (key : List Value) →
         is_some (get y key) ≡ is_some (get a key) }
 {}
 

@@ -12,6 +12,7 @@ use Rattle.clause_trees.specs.declared.frame.Frame.{Frame}
 use Rattle.clause_trees.specs.declared.clause.CheckedClause.{CheckedClause}
 use Rattle.clause_trees.specs.declared.clause.CheckedClause.TheVariants as clause
 use Rattle.clause_trees.specs.declared.clause.CheckedItem.{CheckedItem}
+use Rattle.clause_trees.specs.declared.clause.CheckedMeasure.{CheckedMeasure}
 use Rattle.clause_trees.specs.declared.clause.CheckedRename.{CheckedRename}
 use Rattle.clause_trees.specs.declared.clause.Target.{Target}
 use Rattle.clause_trees.specs.declared.clause.Target.TheVariants.{Old, New}
@@ -62,15 +63,28 @@ with_rename frame r = record { names = filter (λ n. not (is_name_of r.component
 abbrev pub renamed : List CheckedRename → Frame → Frame
 renamed renames frame = fold with_rename frame renames
 
+-- ---- measures in place of those that there are
+
+-- identifiers, and then viral attributes
+abbrev pub staying : Frame → Frame
+staying frame = picked (numbers_of Identifier frame.components ++ numbers_of Viral frame.components) frame
+
+abbrev pub with_measure : Frame → CheckedMeasure → Frame
+with_measure frame i = added frame (made Measure i.kind i.name)
+
+-- what stays, and then the measures that are worked out, not yet by role
+abbrev pub measured : List CheckedMeasure → Frame → Frame
+measured items frame = fold with_measure (staying frame) items
+
 -- ---- unpivot
 
 -- the kind of the first measure; typing sees that there is one, and that the others have its kind
 abbrev pub measure_kind : List Component → Kind
 measure_kind components = unwrap_or (option_map (λ c. c.kind) (find (has_role Measure) components)) Text
 
--- identifiers and viral attributes, and then the new identifier and the new measure, not yet by role
+-- what stays, and then the new identifier and the new measure, not yet by role
 abbrev pub unpivoted : List ℕ → List ℕ → Frame → Frame
-unpivoted identifier measure frame = added (added (picked (numbers_of Identifier frame.components ++ numbers_of Viral frame.components) frame) (made Identifier Text identifier)) (made Measure (measure_kind frame.components) measure)
+unpivoted identifier measure frame = added (added (staying frame) (made Identifier Text identifier)) (made Measure (measure_kind frame.components) measure)
 
 -- ---- a clause
 
@@ -82,3 +96,4 @@ after (clause.Drop numbers) frame = kept (is_left numbers) frame
 after (clause.Rename renames) frame = renamed renames frame
 after (clause.Sub items) frame = kept (is_left (map (λ i. i.component) items)) frame
 after (clause.Unpivot identifier measure) frame = by_role (unpivoted identifier measure frame)
+after (clause.Measures items) frame = by_role (measured items frame)

@@ -20,6 +20,9 @@ pub enum CheckedClause {
     Sub { items: Items<CheckedSubItem> },
     /// Makes a point for each point and measure that isn't null, with the measure's name and its value.
     Unpivot { identifier: Word, measure: Word },
+    /// Works out measures in place of those that there are, as a scalar operator on a data set and `ds#name` do.
+    /// Identifiers and viral attributes stay.
+    Measures { items: Items<CheckedMeasure> },
 }
 
 /// What an item of `calc` is put into: the component with this number, or a new one of this name.
@@ -50,4 +53,12 @@ pub struct CheckedRename {
 pub struct CheckedSubItem {
     pub component: u64,
     pub value: Value,
+}
+
+/// A measure that is worked out: its name, its kind and its value.
+#[derive(Drop)]
+pub struct CheckedMeasure {
+    pub name: Word,
+    pub kind: Kind,
+    pub value: CheckedExpr,
 }

@@ -11,5 +11,7 @@ mod clause;
 mod frame;
 pub mod laws;
 
-pub use clause::{CheckedClause, CheckedItem, CheckedRename, CheckedSubItem, Target};
+pub use clause::{
+    CheckedClause, CheckedItem, CheckedMeasure, CheckedRename, CheckedSubItem, Target,
+};
 pub use frame::Frame;

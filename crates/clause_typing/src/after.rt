@@ -1,6 +1,6 @@
 // Frames after a clause.
-ghost use Rattle.std.specs.Prelude.{◌≡◌, ◌++◌, filter, find, option_map, not, IfOk, OnOk};
-ghost use Rattle.vtl_values.specs.declared.kind.Role.TheVariants.{Identifier, Measure, Viral};
+ghost use Rattle.std.specs.Prelude.{◌≡◌, filter, find, fold, map, option_map, not, IfOk, OnOk};
+ghost use Rattle.vtl_values.specs.declared.kind.Role.TheVariants.{Measure};
 ghost use Rattle.clause_trees.specs.Frames as meant_frames;
 ghost use Rattle.clause_trees.specs.After as meant;
 
@@ -8,7 +8,9 @@ use crate::numbers::{
     has_role, numbers_by_role, numbers_kept, numbers_left, numbers_of_items, numbers_staying,
 };
 use crate::parts::{copy_name, picked};
-use clause_trees::{CheckedClause, CheckedItem, CheckedRename, Frame, Target};
+use clause_trees::{
+    CheckedClause, CheckedItem, CheckedMeasure, CheckedRename, CheckedSubItem, Frame, Target,
+};
 use sqlite_items::Items;
 use std::alloc::{AllocError, Global};
 use typing_rules::ScopeName;
@@ -148,7 +150,7 @@ pub(crate) fn measure_kind(components: &[Component]) -> Kind
 
 /// The identifiers and the viral attributes.
 fn staying(alloc: Global, frame: &Frame) -> Result<Frame, AllocError>
-    ensures { IfOk result (λ staying. staying ≡ meant_frames.picked (meant_frames.numbers_of Identifier frame.now.components ++ meant_frames.numbers_of Viral frame.now.components) frame.now) }
+    ensures { IfOk result (λ staying. staying ≡ meant.staying frame.now) }
 {
     let numbers = numbers_staying(alloc, frame.components.as_slice())?;
     picked(alloc, numbers.as_slice(), frame)
@@ -170,10 +172,53 @@ pub(crate) fn unpivoted(
     Ok(after)
 }
 
+/// A measure more, under its name.
+fn add_measure(frame: &mut Frame, item: &CheckedMeasure) -> Result<(), AllocError>
+    ensures { OnOk result (frame.new ≡ meant.with_measure frame.old item.now) }
+{
+    let component = made(Role::Measure, item.kind, &item.name)?;
+    add(frame, component)
+}
+
+/// Measures more, in their order.
+fn add_measures(frame: &mut Frame, items: &[CheckedMeasure]) -> Result<(), AllocError>
+    ensures { OnOk result (frame.new ≡ fold meant.with_measure frame.old items.now) }
+{
+    for item in items {
+        add_measure(frame, item)?;
+    }
+    Ok(())
+}
+
+/// What stays, and the measures that are worked out, not yet by role.
+fn measured(alloc: Global, items: &[CheckedMeasure], frame: &Frame) -> Result<Frame, AllocError>
+    ensures { IfOk result (λ after. after ≡ meant.measured items.now frame.now) }
+{
+    let mut after = staying(alloc, frame)?;
+    add_measures(&mut after, items)?;
+    Ok(after)
+}
+
 fn by_role(alloc: Global, frame: &Frame) -> Result<Frame, AllocError>
     ensures { IfOk result (λ ordered. ordered ≡ meant_frames.by_role frame.now) }
 {
     let numbers = numbers_by_role(alloc, frame.components.as_slice())?;
+    picked(alloc, numbers.as_slice(), frame)
+}
+
+/// The components after `calc`.
+fn calculated(alloc: Global, items: &[CheckedItem], mut frame: Frame) -> Result<Frame, AllocError>
+    ensures { IfOk result (λ after. after ≡ meant_frames.by_role (meant.calculated items.now frame)) }
+{
+    calculate(&mut frame, items)?;
+    by_role(alloc, &frame)
+}
+
+/// The components that stay in `keep`, and those that are named.
+fn kept(alloc: Global, named: &[u64], frame: &Frame) -> Result<Frame, AllocError>
+    ensures { IfOk result (λ kept. kept ≡ meant_frames.kept (meant.is_kept named.now) frame.now) }
+{
+    let numbers = numbers_kept(alloc, named, frame.components.as_slice())?;
     picked(alloc, numbers.as_slice(), frame)
 }
 
@@ -185,40 +230,44 @@ fn left(alloc: Global, named: &[u64], frame: &Frame) -> Result<Frame, AllocError
     picked(alloc, numbers.as_slice(), frame)
 }
 
+/// The components with their new names.
+fn renamed(alloc: Global, renames: &[CheckedRename], mut frame: Frame) -> Result<Frame, AllocError>
+    ensures { IfOk result (λ after. after ≡ meant.renamed renames.now frame) }
+{
+    rename_all(alloc, &mut frame, renames)?;
+    Ok(frame)
+}
+
+/// The components but for the identifiers of a `sub`.
+fn without(alloc: Global, items: &[CheckedSubItem], frame: &Frame) -> Result<Frame, AllocError>
+    ensures { IfOk result (λ after. after ≡ meant_frames.kept (meant.is_left (map (λ i. i.component) items.now)) frame.now) }
+{
+    let named = numbers_of_items(alloc, items)?;
+    left(alloc, named.as_slice(), frame)
+}
+
 /// What a frame is after a checked clause: the components of the clause's result and their names, in which a component
 /// that is worked out has no code list. Or want of memory. It costs the number of components times the number of names,
 /// and of what the clause names.
-pub fn frame_after(
-    alloc: Global,
-    clause: &CheckedClause,
-    mut frame: Frame,
-) -> Result<Frame, AllocError>
+pub fn frame_after(alloc: Global, clause: &CheckedClause, frame: Frame) -> Result<Frame, AllocError>
     ensures { IfOk result (λ after. after ≡ meant.after clause.now frame) }
 {
     match clause {
         CheckedClause::Filter { .. } => Ok(frame),
-        CheckedClause::Calc { items } => {
-            calculate(&mut frame, items.as_slice())?;
-            by_role(alloc, &frame)
-        }
-        CheckedClause::Keep { components } => {
-            let numbers = numbers_kept(alloc, components.as_slice(), frame.components.as_slice())?;
-            picked(alloc, numbers.as_slice(), &frame)
-        }
+        CheckedClause::Calc { items } => calculated(alloc, items.as_slice(), frame),
+        CheckedClause::Keep { components } => kept(alloc, components.as_slice(), &frame),
         CheckedClause::Drop { components } => left(alloc, components.as_slice(), &frame),
-        CheckedClause::Rename { renames } => {
-            rename_all(alloc, &mut frame, renames.as_slice())?;
-            Ok(frame)
-        }
-        CheckedClause::Sub { items } => {
-            let named = numbers_of_items(alloc, items.as_slice())?;
-            left(alloc, named.as_slice(), &frame)
-        }
+        CheckedClause::Rename { renames } => renamed(alloc, renames.as_slice(), frame),
+        CheckedClause::Sub { items } => without(alloc, items.as_slice(), &frame),
         CheckedClause::Unpivot {
             identifier,
             measure,
         } => {
             let frame = unpivoted(alloc, identifier, measure, &frame)?;
+            by_role(alloc, &frame)
+        }
+        CheckedClause::Measures { items } => {
+            let frame = measured(alloc, items.as_slice(), &frame)?;
             by_role(alloc, &frame)
         }
     }

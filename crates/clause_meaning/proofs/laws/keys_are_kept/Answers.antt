@@ -1,5 +1,5 @@
 use Rattle.std.proofs.Common.{refl}
-use Rattle.clause_meaning.proofs.Kept.{calc-keys, same_keys}
+use Rattle.clause_meaning.proofs.Kept.{calc-keys, measures-keys, same_keys}
 use Rattle.clause_meaning.proofs.laws.keys_are_kept.Goals as goal
 
 pub returns-clause-calc : goal.returns-clause-calc
@@ -13,3 +13,6 @@ returns-clause-drop c = λ numbers frame a y. same_keys _ _ a y (λ key rest h. 
 
 pub returns-clause-rename : goal.returns-clause-rename
 returns-clause-rename c = λ renames frame a y. same_keys _ _ a y (λ key rest h. refl)
+
+pub returns-clause-measures : goal.returns-clause-measures
+returns-clause-measures c = λ items frame a y. measures-keys frame a y items
