@@ -1,2 +1,5 @@
 pub mod Parts
 pub mod Ordered
+pub mod Changes
+pub mod Names
+pub mod Made

@@ -12,7 +12,7 @@ use Rattle.clause_trees.specs.Frames.{is_role, has_role, numbers_of, numbers_by_
 use Rattle.clause_trees.specs.Laws.{FitTogether, OrdersStructures}
 use Rattle.clause_trees.proofs.Parts.{left_from, picked_are, left_all, pairs_head, pairs_tail, left_pairs}
 
-role_is : (r s : Role) → is_role r s ≡ true → r ≡ s
+pub role_is : (r s : Role) → is_role r s ≡ true → r ≡ s
 role_is Identifier Identifier is = refl
 role_is Identifier Measure is = cc
 role_is Identifier Attribute is = cc
@@ -44,13 +44,13 @@ next_place r s a b below first second =
     omega (arith, here, there)
 
 -- the components of a role
-abbrev part : Role → List Component → List Component
+abbrev pub part : Role → List Component → List Component
 part r cs = left_from (λ number. has_role r) 0 cs
 
 abbrev ordered : List Component → List Component
 ordered cs = ((part Identifier cs ++ part Measure cs) ++ part Attribute cs) ++ part Viral cs
 
-pairs_append : (R : Component → Component → Type 0) (xs ys : List Component) → AllPairs R xs → AllPairs R ys → All (λ x. All (R x) ys) xs → AllPairs R (xs ++ ys)
+pub pairs_append : (R : Component → Component → Type 0) (xs ys : List Component) → AllPairs R xs → AllPairs R ys → All (λ x. All (R x) ys) xs → AllPairs R (xs ++ ys)
 pairs_append R [] ys first second across = second
 pairs_append R (x ∷ xs) ys first second across =
     AllPairs-cons R x (xs ++ ys) (All-append (R x) xs ys (pairs_head R x xs first) (All-head (λ z. All (R z) ys) x xs across)) (pairs_append R xs ys (pairs_tail R x xs first) second (All-tail (λ z. All (R z) ys) x xs across))
@@ -74,7 +74,7 @@ have_one : (r : Role) (c : Component) (rest : List Component) (b : Bool) → has
 have_one r c rest true is more = All-cons (λ d. r ≡ d.role) c rest (role_is r c.role is) more
 have_one r c rest false is more = more
 
-have_role : (r : Role) (n : ℕ) (cs : List Component) → All (λ c. r ≡ c.role) (left_from (λ number. has_role r) n cs)
+pub have_role : (r : Role) (n : ℕ) (cs : List Component) → All (λ c. r ≡ c.role) (left_from (λ number. has_role r) n cs)
 have_role r n [] = All-nil (λ c. r ≡ c.role)
 have_role r n (c ∷ cs) = have_one r c (left_from (λ number. has_role r) (n + 1) cs) (has_role r c) refl (have_role r (n + 1) cs)
 
@@ -86,7 +86,7 @@ across_one R c firsts seconds true false never to from more = All-cons (λ x. Al
 across_one R c firsts seconds false true never to from more = λ k d within. All-cons (R (get_or firsts k d)) c seconds (to k d within) (more k d within)
 across_one R c firsts seconds false false never to from more = more
 
-across_from : (R : Component → Component → Type 0) → ((a b : Component) → R a b → R b a) → (r s : Role) → place_of r < place_of s → (n : ℕ) (cs : List Component) → AllPairs R cs
+pub across_from : (R : Component → Component → Type 0) → ((a b : Component) → R a b → R b a) → (r s : Role) → place_of r < place_of s → (n : ℕ) (cs : List Component) → AllPairs R cs
     → All (λ x. All (R x) (left_from (λ number. has_role s) n cs)) (left_from (λ number. has_role r) n cs)
 across_from R turned r s below n [] pairs = All-nil (λ x. All (R x) [])
 across_from R turned r s below n (c ∷ cs) pairs =

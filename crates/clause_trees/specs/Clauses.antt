@@ -1,6 +1,6 @@
 -- What a clause is checked to be, or its first fault, which stands at its word (docs/language.md, "Clauses", "Faults of
 -- clauses").
-use Rattle.std.specs.Prelude.{ℕ, Bool, true, false, not, ◌&&◌, ◌||◌, List, [], ◌∷◌, length, Option, Some, None, option_map, option_and_then, is_some, unwrap_or, filter_map, slice_get, nat_eq, nat_le, Result, Ok}
+use Rattle.std.specs.Prelude.{◌≡◌, ℕ, Bool, true, false, not, ◌&&◌, ◌||◌, List, [], ◌∷◌, length, Option, Some, None, option_map, option_and_then, is_some, unwrap_or, filter_map, slice_get, nat_eq, nat_le, Result, Ok}
 use Rattle.std.specs.List.{list_any, list_all}
 use Rattle.std.specs.Option.{option_map_or}
 use Rattle.vtl_values.specs.Texts.{same_text}
@@ -120,6 +120,13 @@ role_of None old = unwrap_or old role.Measure
 -- an item, whose value as a whole expression is a string where it is null
 abbrev pub item_typed : Frame → Option ItemRole → List ℕ → Typed → CheckedItem
 item_typed frame stated name value = record { target = target_of (bare_number_of frame name) name; role = role_of stated (old_role frame (bare_number_of frame name)); kind = whole_kind Text value.kind; value = value.tree }
+
+-- an item that is made so on a frame
+pub record IsItemOf (frame : Frame) (item : CheckedItem) : Type 0 where
+  pub stated : Option ItemRole
+  pub name : List ℕ
+  pub value : Typed
+  pub is : item ≡ item_typed frame stated name value
 
 -- identifiers and viral attributes can't be worked out
 abbrev pub may_be_target : Frame → Target → Bool
