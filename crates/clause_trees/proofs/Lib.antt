@@ -3,3 +3,4 @@ pub mod Ordered
 pub mod Changes
 pub mod Names
 pub mod Made
+pub mod Typed

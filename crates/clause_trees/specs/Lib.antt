@@ -1,4 +1,5 @@
 pub mod Frames
 pub mod After
 pub mod Clauses
+pub mod WellTyped
 pub mod Laws

@@ -1,2 +1,3 @@
 pub mod Demanding
+pub mod OfKinds
 pub mod Walks

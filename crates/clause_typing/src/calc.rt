@@ -1,8 +1,9 @@
 // `calc`.
-ghost use Rattle.std.specs.Prelude.{◌≡◌, Ok, IfOk, IfErr};
+ghost use Rattle.std.specs.Prelude.{◌≡◌, true, Ok, All, IfOk, IfErr};
 ghost use Rattle.typing_rules.specs.Steps.{Refuses};
 ghost use Rattle.clause_trees.specs.After.{calculated};
 ghost use Rattle.clause_trees.specs.Clauses as meant;
+ghost use Rattle.clause_trees.specs.WellTyped.{is_of, is_well_typed};
 
 use crate::after::calculate;
 use crate::choices::may_go;
@@ -102,6 +103,9 @@ pub fn calc_typed(
 ) -> Result<CheckedClause, TypeStop>
     ensures ok { IfOk result (λ clause. meant.calc_typed place items frame.now ≡ Ok clause) }
     ensures err { IfErr result (Refuses (meant.calc_typed place items frame.now)) }
+    ensures typed { All (meant.IsItemOf frame.now) items →
+        All (λ i. is_of frame.now i.kind i.value ≡ true) items →
+        IfOk result (λ clause. is_well_typed frame.now clause ≡ true) }
 {
     let all = items.as_slice();
     let fit = may_calculate(frame, all);

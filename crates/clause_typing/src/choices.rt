@@ -1,10 +1,11 @@
 // `keep` and `drop`.
-ghost use Rattle.std.specs.Prelude.{◌≡◌, not, Ok, IfOk, IfErr};
+ghost use Rattle.std.specs.Prelude.{◌≡◌, not, true, Ok, IfOk, IfErr};
 ghost use Rattle.vtl_values.specs.declared.kind.Role.TheVariants.{Identifier};
 ghost use Rattle.typing_rules.specs.Steps.{Refuses};
 ghost use Rattle.clause_trees.specs.Frames.{has_role};
 ghost use Rattle.clause_trees.specs.After as after;
 ghost use Rattle.clause_trees.specs.Clauses as meant;
+ghost use Rattle.clause_trees.specs.WellTyped.{is_well_typed};
 
 use crate::demands::demands;
 use crate::names::{are_known, numbers_named};
@@ -42,6 +43,7 @@ pub fn keep_typed(
 ) -> Result<CheckedClause, TypeStop>
     ensures ok { IfOk result (λ clause. meant.keep_typed place names.now frame.now ≡ Ok clause) }
     ensures err { IfErr result (Refuses (meant.keep_typed place names.now frame.now)) }
+    ensures typed { IfOk result (λ clause. is_well_typed frame.now clause ≡ true) }
 {
     let components = numbers_named(alloc, frame, names)?;
     let known = are_known(frame, names);
@@ -80,6 +82,7 @@ pub fn drop_typed(
 ) -> Result<CheckedClause, TypeStop>
     ensures ok { IfOk result (λ clause. meant.drop_typed place names.now frame.now ≡ Ok clause) }
     ensures err { IfErr result (Refuses (meant.drop_typed place names.now frame.now)) }
+    ensures typed { IfOk result (λ clause. is_well_typed frame.now clause ≡ true) }
 {
     let components = numbers_named(alloc, frame, names)?;
     let known = are_known(frame, names);

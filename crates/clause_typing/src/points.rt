@@ -1,7 +1,10 @@
 // `filter`.
-ghost use Rattle.std.specs.Prelude.{◌≡◌, Ok, IfOk, IfErr};
+ghost use Rattle.std.specs.Prelude.{◌≡◌, true, Ok, IfOk, IfErr};
+ghost use Rattle.typing_rules.specs.Sound.{IsTyped};
 ghost use Rattle.typing_rules.specs.Steps.{Refuses};
+ghost use Rattle.clause_trees.specs.declared.frame.Frame.{Frame};
 ghost use Rattle.clause_trees.specs.Clauses as meant;
+ghost use Rattle.clause_trees.specs.WellTyped.{is_well_typed, kinds_on};
 
 use clause_trees::CheckedClause;
 use operator_typing::wanted;
@@ -17,6 +20,8 @@ pub fn filter_typed(
 ) -> Result<CheckedClause, TypeStop>
     ensures ok { IfOk result (λ clause. meant.filter_typed place condition ≡ Ok clause) }
     ensures err { IfErr result (Refuses (meant.filter_typed place condition)) }
+    ensures typed { (frame : Frame) → IsTyped (kinds_on frame) condition →
+        IfOk result (λ clause. is_well_typed frame clause ≡ true) }
 {
     let condition = wanted(alloc, place, Kind::Truth, condition)?;
     Ok(CheckedClause::Filter { condition })

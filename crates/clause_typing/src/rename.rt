@@ -1,7 +1,8 @@
 // `rename`.
-ghost use Rattle.std.specs.Prelude.{◌≡◌, Ok, IfOk, IfErr};
+ghost use Rattle.std.specs.Prelude.{◌≡◌, true, Ok, IfOk, IfErr};
 ghost use Rattle.typing_rules.specs.Steps.{Refuses};
 ghost use Rattle.clause_trees.specs.Clauses as meant;
+ghost use Rattle.clause_trees.specs.WellTyped.{is_well_typed};
 
 use crate::after::rename_all;
 use crate::demands::demands;
@@ -71,6 +72,7 @@ pub fn rename_typed(
 ) -> Result<CheckedClause, TypeStop>
     ensures ok { IfOk result (λ clause. meant.rename_typed place renames.now frame.now ≡ Ok clause) }
     ensures err { IfErr result (Refuses (meant.rename_typed place renames.now frame.now)) }
+    ensures typed { IfOk result (λ clause. is_well_typed frame.now clause ≡ true) }
 {
     let checked = all_checked(alloc, frame, renames)?;
     let known = are_known(frame, renames);

@@ -1,9 +1,10 @@
 // `sub`.
-ghost use Rattle.std.specs.Prelude.{◌≡◌, Ok, IfOk, IfErr};
+ghost use Rattle.std.specs.Prelude.{◌≡◌, true, Ok, IfOk, IfErr};
 ghost use Rattle.vtl_values.specs.declared.kind.Role.TheVariants.{Identifier};
 ghost use Rattle.typing_rules.specs.Steps.{Refuses};
 ghost use Rattle.clause_trees.specs.Frames as frames;
 ghost use Rattle.clause_trees.specs.Clauses as meant;
+ghost use Rattle.clause_trees.specs.WellTyped.{is_well_typed};
 
 use crate::demands::demands;
 use crate::names::bare_number_of;
@@ -107,6 +108,7 @@ pub fn sub_typed(
 ) -> Result<CheckedClause, TypeStop>
     ensures ok { IfOk result (λ clause. meant.sub_typed place items.now frame.now ≡ Ok clause) }
     ensures err { IfErr result (Refuses (meant.sub_typed place items.now frame.now)) }
+    ensures typed { IfOk result (λ clause. is_well_typed frame.now clause ≡ true) }
 {
     let checked = all_checked(alloc, frame, items)?;
     let known = are_known(frame, items);

@@ -1,8 +1,9 @@
 // `unpivot`.
-ghost use Rattle.std.specs.Prelude.{◌≡◌, Ok, IfOk, IfErr};
+ghost use Rattle.std.specs.Prelude.{◌≡◌, true, Ok, IfOk, IfErr};
 ghost use Rattle.scalar_trees.specs.WellTyped as kinds;
 ghost use Rattle.typing_rules.specs.Steps.{Refuses};
 ghost use Rattle.clause_trees.specs.Clauses as meant;
+ghost use Rattle.clause_trees.specs.WellTyped.{is_well_typed};
 
 use crate::after::{measure_kind, unpivoted};
 use crate::demands::{demands, has_room};
@@ -56,6 +57,7 @@ pub fn unpivot_typed(
 ) -> Result<CheckedClause, TypeStop>
     ensures ok { IfOk result (λ clause. meant.unpivot_typed place identifier.now measure.now frame.now ≡ Ok clause) }
     ensures err { IfErr result (Refuses (meant.unpivot_typed place identifier.now measure.now frame.now)) }
+    ensures typed { IfOk result (λ clause. is_well_typed frame.now clause ≡ true) }
 {
     let after = unpivoted(alloc, identifier, measure, frame)?;
     let alike = are_alike(frame.components.as_slice());

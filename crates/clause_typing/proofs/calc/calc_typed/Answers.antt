@@ -1,10 +1,12 @@
-use Rattle.std.proofs.Common.{◌≡◌, List, Bool, [], ◌∷◌, ap, ◌∙◌}
+use Rattle.std.proofs.Common.{◌≡◌, List, Bool, true, ◌&&◌, [], ◌∷◌, ap, sym, ◌∙◌}
 use Rattle.typing_rules.specs.declared.stop.Fault.{Fault}
 use Rattle.typing_rules.specs.declared.stop.Fault.TheVariants.{WrongRole, NameTwice, TooManyComponents}
+use Rattle.typing_rules.proofs.Sound.{left}
+use Rattle.clause_trees.proofs.Typed.{items_well_typed}
 use Rattle.clause_trees.specs.declared.clause.CheckedClause.TheVariants as clause
 use Rattle.clause_trees.specs.After.{calculated}
 use Rattle.clause_trees.specs.Clauses.{may_calculate, targets_differ, has_room}
-use Rattle.clause_typing.proofs.Demanding.{refuses}
+use Rattle.clause_typing.proofs.Demanding.{hold, refuses}
 use Rattle.clause_typing.proofs.calc.calc_typed.Goals as goal
 
 pub returns-in_err-demands-clause-err : goal.returns-in_err-demands-clause-err
@@ -19,3 +21,14 @@ returns-in_err-demands-clause-err c =
     refuses c.args.place given meant (clause.Calc items) c.from_residual-in_err-demands.result c.in_err-demands.field-0.0
     (λ i. (fit i, WrongRole) ∷ (once i, NameTwice) ∷ (room i, TooManyComponents) ∷ [])
     c.in_err-demands.ensures.err c.from_residual-in_err-demands.ensures.1
+
+pub returns-clause-typed : goal.returns-clause-typed
+returns-clause-typed c =
+    let frame = c.args.frame.now in
+    let items = c.args.items in
+    let fit = c.may_calculate-fit.result in
+    let once = c.targets_differ-once.result in
+    let room = c.in_ok-room.room in
+    let holds = hold c.args.place ((fit, WrongRole) ∷ (once, NameTwice) ∷ (room, TooManyComponents) ∷ []) c.in_ok-demands.field-0 c.in_ok-demands.ensures.ok in
+    let may : may_calculate frame items ≡ true = sym (c.may_calculate-fit.ensures ∙ ap (may_calculate frame) c.as_slice-all.ensures) ∙ left fit (once && (room && true)) holds in
+    λ all typed. items_well_typed frame items may all typed

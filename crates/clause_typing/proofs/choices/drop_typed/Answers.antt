@@ -1,9 +1,10 @@
-use Rattle.std.proofs.Common.{◌≡◌, List, Bool, [], ◌∷◌, ap, ◌∙◌}
+use Rattle.std.proofs.Common.{◌≡◌, List, Bool, true, ◌&&◌, [], ◌∷◌, ap, sym, ◌∙◌}
 use Rattle.typing_rules.specs.declared.stop.Fault.{Fault}
 use Rattle.typing_rules.specs.declared.stop.Fault.TheVariants.{UnknownComponent, WrongRole}
+use Rattle.typing_rules.proofs.Sound.{left, right}
 use Rattle.clause_trees.specs.declared.clause.CheckedClause.TheVariants as clause
 use Rattle.clause_trees.specs.Clauses.{are_known, may_drop, numbers_named}
-use Rattle.clause_typing.proofs.Demanding.{refuses}
+use Rattle.clause_typing.proofs.Demanding.{hold, refuses}
 use Rattle.clause_typing.proofs.choices.drop_typed.Goals as goal
 
 pub returns-in_err-demands-clause-err : goal.returns-in_err-demands-clause-err
@@ -16,3 +17,10 @@ returns-in_err-demands-clause-err c =
     refuses c.args.place given meant (clause.Drop (numbers_named frame names)) c.from_residual-in_err-demands.result c.in_err-demands.field-0.0
     (λ i. (c.are_known-known.ensures i, UnknownComponent) ∷ (fit i, WrongRole) ∷ [])
     c.in_err-demands.ensures.err c.from_residual-in_err-demands.ensures.1
+
+pub returns-clause-typed : goal.returns-clause-typed
+returns-clause-typed c =
+    let known = c.are_known-known.result in
+    let fit = c.may_drop-fit.result in
+    let holds = hold c.args.place ((known, UnknownComponent) ∷ (fit, WrongRole) ∷ []) c.in_ok-demands.field-0 c.in_ok-demands.ensures.ok in
+    sym (c.may_drop-fit.ensures ∙ ap (may_drop c.args.frame.now) c.as_slice.ensures) ∙ left fit true (right known (fit && true) holds)

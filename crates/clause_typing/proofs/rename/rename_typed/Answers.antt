@@ -1,7 +1,11 @@
-use Rattle.std.proofs.Common.{◌≡◌, List, Bool, [], ◌∷◌, ap, ◌∙◌}
+use Rattle.std.proofs.Common.{◌≡◌, List, Bool, true, [], ◌∷◌, ap, sym, subst, ◌∙◌}
+use Rattle.std.specs.List.{list_all}
 use Rattle.typing_rules.specs.declared.stop.Fault.{Fault}
 use Rattle.typing_rules.specs.declared.stop.Fault.TheVariants.{UnknownComponent, NameTwice}
 use Rattle.clause_trees.specs.declared.clause.CheckedClause.TheVariants as clause
+use Rattle.clause_trees.specs.declared.clause.CheckedRename.{CheckedRename}
+use Rattle.clause_trees.specs.WellTyped.{is_component}
+use Rattle.clause_trees.proofs.Typed.{renames_there}
 use Rattle.clause_trees.specs.Clauses.{are_known_renames, renames_checked, renames_differ}
 use Rattle.clause_typing.proofs.Demanding.{refuses}
 use Rattle.clause_typing.proofs.rename.rename_typed.Goals as goal
@@ -16,3 +20,8 @@ returns-in_err-demands-clause-err c =
     refuses c.args.place given meant (clause.Rename (renames_checked frame renames)) c.from_residual-in_err-demands.result c.in_err-demands.field-0.0
     (λ i. (c.are_known-known.ensures i, UnknownComponent) ∷ (once i, NameTwice) ∷ [])
     c.in_err-demands.ensures.err c.from_residual-in_err-demands.ensures.1
+
+pub returns-clause-typed : goal.returns-clause-typed
+returns-clause-typed c =
+    let frame = c.args.frame.now in
+    subst (λ (rs : List CheckedRename). list_all (λ r. is_component frame r.component) rs ≡ true) (sym c.in_ok-checked.ensures) (renames_there frame c.args.renames.now)

@@ -1,10 +1,11 @@
-use Rattle.std.proofs.Common.{◌≡◌, List, Bool, Ok, [], ◌∷◌, ap, sym, ◌∙◌}
+use Rattle.std.proofs.Common.{◌≡◌, List, Bool, true, ◌&&◌, Ok, [], ◌∷◌, ap, sym, ◌∙◌}
 use Rattle.typing_rules.specs.declared.stop.Fault.{Fault}
 use Rattle.typing_rules.specs.declared.stop.Fault.TheVariants.{UnknownComponent, WrongType, WrongRole, BadConstant}
+use Rattle.typing_rules.proofs.Sound.{both, left, right}
 use Rattle.clause_trees.specs.declared.clause.CheckedClause.TheVariants as clause
 use Rattle.clause_trees.specs.declared.clause.CheckedSubItem.{CheckedSubItem}
 use Rattle.clause_trees.specs.Clauses.{are_known_items, subs_checked, are_comparable, are_identifiers, are_present}
-use Rattle.clause_typing.proofs.Demanding.{passes, refuses}
+use Rattle.clause_typing.proofs.Demanding.{hold, passes, refuses}
 use Rattle.clause_typing.proofs.sub.sub_typed.Goals as goal
 
 pub returns-in_err-demands-clause-err : goal.returns-in_err-demands-clause-err
@@ -37,3 +38,16 @@ returns-clause-ok c =
     (λ i. (c.are_known-known.ensures i, UnknownComponent) ∷ (alike i, WrongType) ∷ (fit i, WrongRole) ∷ (present i, BadConstant) ∷ [])
     c.in_ok-demands.ensures.ok
     ∙ ap (λ (q : List CheckedSubItem). Ok (clause.Sub q)) (sym c.in_ok-checked.ensures)
+
+pub returns-clause-typed : goal.returns-clause-typed
+returns-clause-typed c =
+    let frame = c.args.frame.now in
+    let known = c.are_known-known.result in
+    let alike = c.are_comparable-alike.result in
+    let fit = c.are_identifiers-fit.result in
+    let present = c.are_present-present.result in
+    let holds = hold c.args.place ((known, UnknownComponent) ∷ (alike, WrongType) ∷ (fit, WrongRole) ∷ (present, BadConstant) ∷ []) c.in_ok-demands.field-0 c.in_ok-demands.ensures.ok in
+    let compared = right known (alike && (fit && (present && true))) holds in
+    both (are_comparable frame c.in_ok-checked.checked) (are_identifiers frame c.in_ok-checked.checked)
+    (sym (c.are_comparable-alike.ensures ∙ ap (are_comparable frame) c.as_slice-found.ensures) ∙ left alike (fit && (present && true)) compared)
+    (sym (c.are_identifiers-fit.ensures ∙ ap (are_identifiers frame) c.as_slice-found.ensures) ∙ left fit (present && true) (right alike (fit && (present && true)) compared))
