@@ -1,8 +1,8 @@
 -- What clauses give is of the components after them.
 use Rattle.std.proofs.Common.{◌≡◌, ℕ, zero, suc, List, [], ◌∷◌, ◌++◌, map, Bool, true, false, cond, not, ◌&&◌, ◌||◌, Option, Some, None, refl, sym, ap, subst, ◌∙◌, inl, inr}
-use Rattle.std.specs.Prelude.{nat_eq, option_and_then, filter, filter_map, slice_get, slice_set}
+use Rattle.std.specs.Prelude.{nat_eq, option_and_then, filter, filter_map, slice_get}
 use Rattle.std.specs.Bool.{then_some}
-use Rattle.std.specs.Option.{IfSome, option_map_or}
+use Rattle.std.specs.Option.{IfSome}
 use Rattle.std.specs.List.{AllZip}
 use Rattle.std.specs.FinMap.{get}
 use Rattle.std.proofs.lemmas.Bool.{cases_Bool, eqb-true}
@@ -23,6 +23,7 @@ use Rattle.clause_trees.specs.declared.clause.CheckedSubItem.{CheckedSubItem}
 use Rattle.clause_trees.specs.Frames.{has_role, is_role, numbers_from, kept, changed_at}
 use Rattle.clause_trees.specs.After.{after, is_among, is_kept, is_left, renamed, with_rename}
 use Rattle.clause_trees.specs.Clauses.{passes_at, may_drop, are_identifiers}
+use Rattle.clause_trees.proofs.Changes.{changed-later}
 use Rattle.clause_meaning.specs.Workings.{outcome_of, point_by_point}
 use Rattle.clause_meaning.specs.Clauses.{is_true_at, others_where, key_left, clause_meaning}
 use Rattle.clause_meaning.specs.Ordered.{HasIdentifiersFirst}
@@ -68,7 +69,7 @@ module _ (frame : Frame) (passes : ℕ → Component → Bool) (stay : (m : ℕ)
         (AllZip-picked FitsComponent (numbers_from (λ m c. not (is_identifier c) && passes m c) 0 frame.components) frame.components (key ++ rest) (all-fit frame key rest first h));
   }
 
-same_test : (c : Component) (r : Role) → is_identifier (record c { role = r }) ≡ is_role Identifier r
+pub same_test : (c : Component) (r : Role) → is_identifier (record c { role = r }) ≡ is_role Identifier r
 same_test c Identifier = refl
 same_test c Measure = refl
 same_test c Attribute = refl
@@ -100,10 +101,6 @@ left-identifiers frame numbers may m c there = elim (cases_Bool (is_among number
 ]
 
 -- ---- names that change
-
--- a later component changes
-changed-later : (change : Component → Component) (m : ℕ) (c : Component) (cs : List Component) → changed_at change (suc m) (c ∷ cs) ≡ c ∷ changed_at change m cs
-changed-later change m c cs = elim (slice_get cs m) as (λ o. option_map_or (λ d. slice_set (c ∷ cs) (suc m) (change d)) o (c ∷ cs) ≡ c ∷ option_map_or (λ d. slice_set cs m (change d)) o cs) [ None ↦ refl | Some d ↦ refl ]
 
 module _ (F : Component → Value → Type 0) (p : Component → Bool) (name : List ℕ) (same : (c : Component) (v : Value) → F c v → F (record c { name = name }) v) (alike : (c : Component) → p (record c { name = name }) ≡ p c) where
   first-named : (b : Bool) (c : Component) (cs : List Component) (vs : List Value) → p (record c { name = name }) ≡ b → AllZip F (cond b (c ∷ filter p cs) (filter p cs)) vs → AllZip F (filter p (record c { name = name } ∷ cs)) vs

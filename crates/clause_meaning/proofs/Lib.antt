@@ -3,6 +3,8 @@ pub mod Picked
 pub mod Covered
 pub mod Kept
 pub mod Fits
+pub mod ByRole
+pub mod MadeFits
 pub mod Worked
 pub mod Bounded
 pub mod First

@@ -19,6 +19,7 @@ ghost use Rattle.clause_trees.specs.declared.clause.CheckedSubItem.{CheckedSubIt
 ghost use Rattle.clause_trees.specs.declared.frame.Frame.{Frame};
 ghost use Rattle.clause_trees.specs.After.{after};
 ghost use Rattle.clause_trees.specs.Clauses.{are_identifiers, may_drop};
+ghost use Rattle.clause_trees.specs.WellTyped.{is_well_typed};
 ghost use Rattle.clause_meaning.specs.Clauses.{clause_meaning, has_values, is_true_at, key_left, makes_more, measure_point, working_of};
 ghost use Rattle.clause_meaning.specs.Ordered.{HasIdentifiersFirst};
 
@@ -87,7 +88,7 @@ pub fn structures_have_identifiers_first()
     ensures { (frame : Frame) → IsStructure frame.components → HasIdentifiersFirst frame }
 {}
 
-/// What `filter`, `keep`, `drop`, `rename` and `sub` give is of the components that stand after them.
+/// What a clause gives is of the components that stand after it.
 pub fn results_fit()
     ensures filter { (condition : CheckedExpr) (frame : Frame) (a y : DataSet) → IsSetOf frame.components a →
         clause_meaning (clause.Filter condition) frame a ≡ Made y →
@@ -106,4 +107,16 @@ pub fn results_fit()
         are_identifiers frame items ≡ true → IsSetOf frame.components a →
         clause_meaning (clause.Sub items) frame a ≡ Made y →
         IsSetOf (after (clause.Sub items) frame).components y }
+    ensures calc { (items : List CheckedItem) (frame : Frame) (a y : DataSet) → HasIdentifiersFirst frame →
+        is_well_typed frame (clause.Calc items) ≡ true → IsSetOf frame.components a →
+        clause_meaning (clause.Calc items) frame a ≡ Made y →
+        IsSetOf (after (clause.Calc items) frame).components y }
+    ensures unpivot { (identifier measure : List ℕ) (frame : Frame) (a y : DataSet) → HasIdentifiersFirst frame →
+        is_well_typed frame (clause.Unpivot identifier measure) ≡ true → IsSetOf frame.components a →
+        clause_meaning (clause.Unpivot identifier measure) frame a ≡ Made y →
+        IsSetOf (after (clause.Unpivot identifier measure) frame).components y }
+    ensures measures { (items : List CheckedMeasure) (frame : Frame) (a y : DataSet) → HasIdentifiersFirst frame →
+        is_well_typed frame (clause.Measures items) ≡ true → IsSetOf frame.components a →
+        clause_meaning (clause.Measures items) frame a ≡ Made y →
+        IsSetOf (after (clause.Measures items) frame).components y }
 {}
