@@ -1,9 +1,10 @@
 // `calc`.
 ghost use Rattle.std.specs.Prelude.{◌≡◌, true, Ok, All, IfOk, IfErr};
+ghost use Rattle.typing_rules.specs.Sound.{IsTyped};
 ghost use Rattle.typing_rules.specs.Steps.{Refuses};
 ghost use Rattle.clause_trees.specs.After.{calculated};
 ghost use Rattle.clause_trees.specs.Clauses as meant;
-ghost use Rattle.clause_trees.specs.WellTyped.{is_of, is_well_typed};
+ghost use Rattle.clause_trees.specs.WellTyped.{is_of, is_well_typed, kinds_on};
 
 use crate::after::calculate;
 use crate::choices::may_go;
@@ -56,7 +57,9 @@ pub fn item_typed(
     name: &Word,
     value: Typed,
 ) -> Result<CheckedItem, AllocError>
-    ensures { IfOk result (λ item. item ≡ meant.item_typed frame.now stated name.now value) }
+    ensures ok { IfOk result (λ item. item ≡ meant.item_typed frame.now stated name.now value) }
+    ensures typed { IsTyped (kinds_on frame.now) value →
+        IfOk result (λ item. is_of frame.now item.kind item.value ≡ true) }
 {
     let number = bare_number_of(frame, name);
     let Typed { tree, kind } = value;
