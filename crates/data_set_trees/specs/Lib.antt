@@ -1,0 +1,12 @@
+pub mod Components
+pub mod Forms
+pub mod Trees
+pub mod Lifted
+pub mod Pairs
+pub mod Members
+pub mod Exists
+pub mod Sets
+pub mod Choices
+pub mod OnClauses
+pub mod Expressions
+pub mod Examples

@@ -1,0 +1,83 @@
+// Trees of operators on data sets.
+use clause_trees::{CheckedClause, CheckedMeasure};
+use scalar_trees::CheckedExpr;
+use sqlite_items::Items;
+use vtl_syntax::words::ExistsRows;
+use vtl_values::{Kind, Place, Structure, Word};
+
+/// What a name stands for: an input by its number among the structures, or the result of a statement by its number in
+/// the script, both from 0.
+#[derive(Clone, Copy, Debug, PartialEq, Eq)]
+pub enum Source {
+    Input(u64),
+    Result(u64),
+}
+
+/// The set operators.
+#[derive(Clone, Copy, Debug, PartialEq, Eq)]
+pub enum SetOperation {
+    Union,
+    Intersect,
+    Setdiff,
+    Symdiff,
+}
+
+/// A measure of a conditional: its name, its kind, and its value in each branch. In a branch that is a data set names are
+/// numbers of its components; one that is a scalar has none.
+#[derive(Drop)]
+pub struct ChoiceMeasure {
+    pub name: Word,
+    pub kind: Kind,
+    pub holds: CheckedExpr,
+    pub fails: CheckedExpr,
+}
+
+/// What a branch of a conditional is: the next data set among the operands, or a scalar.
+#[derive(Clone, Copy, Debug, PartialEq, Eq)]
+pub enum Branch {
+    DataSet,
+    Scalar,
+}
+
+/// An operator on data sets, with all that its form says but its data set operands.
+#[derive(Drop)]
+pub enum DataSetOperator {
+    /// A clause; a scalar operator on one data set and constants; `a#c`.
+    Clause(CheckedClause),
+    /// A scalar operator on two data sets. The names in its measures are numbers of the components of both, those of the
+    /// second operand after those of the first.
+    Pair {
+        measures: Items<CheckedMeasure>,
+    },
+    /// `if c then a else b`, of a data set `c` and of the branches that are data sets
+    Choice {
+        holds: Branch,
+        fails: Branch,
+        measures: Items<ChoiceMeasure>,
+    },
+    /// `exists_in(a, b, rows)`
+    ExistsIn {
+        rows: ExistsRows,
+    },
+    /// `union(a, b, ..)` and its like
+    Set(SetOperation),
+}
+
+/// A name, or an operator on its operands.
+#[cycle(tree)]
+#[derive(Drop)]
+pub enum DataSetTree {
+    Name(Source),
+    Operator(DataSetNode),
+}
+
+/// An operator at its place in the script, its operands in order with their structures, and the structure of its result.
+#[cycle(tree)]
+#[derive(Drop)]
+pub struct DataSetNode {
+    pub operator: DataSetOperator,
+    pub place: Place,
+    pub children: Items<DataSetTree>,
+    pub operands: Items<Structure>,
+    pub structure: Structure,
+}
