@@ -1,4 +1,4 @@
--- `if c then a else b` (docs/language.md, "Conditionals").
+-- `if c then a else b` (docs/language.md, "Structures of results").
 use Rattle.std.specs.Prelude.{ℕ, Bool, true, false, ◌&&◌, ◌++◌, List, [], ◌∷◌, map, find, length, nat_eq, Option, Some, is_some, option_map, Result, Ok}
 use Rattle.std.specs.List.{list_all}
 use Rattle.vtl_values.specs.declared.kind.Kind.{Kind}

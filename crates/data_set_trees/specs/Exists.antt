@@ -1,4 +1,4 @@
--- `exists_in` (docs/language.md, "exists_in").
+-- `exists_in` (docs/language.md, "Structures of results").
 use Rattle.std.specs.Prelude.{Bool, not, ◌||◌, ◌++◌, List, [], ◌∷◌, map, Option, unwrap_or, Ok}
 use Rattle.std.specs.List.{list_all}
 use Rattle.vtl_values.specs.Texts.{same_text}

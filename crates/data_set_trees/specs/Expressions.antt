@@ -1,5 +1,5 @@
--- What an expression outside of clauses is checked to be, or its first fault (docs/language.md, "Data set operators",
--- "Faults of types").
+-- What an expression outside of clauses is checked to be, or its first fault (docs/language.md, "Structures of results",
+-- "Faults of structures").
 use Rattle.std.specs.Prelude.{ℕ, List, [], ◌∷◌, map, Option, Some, None, Result, Ok, ⊤}
 use Rattle.std.specs.Option.{option_map, option_to_list}
 use Rattle.vtl_values.specs.declared.place.Place.{Place}

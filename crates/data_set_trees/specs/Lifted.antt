@@ -1,5 +1,5 @@
--- A scalar operator on data sets and constants: on each measure it is what it is on that component (docs/language.md,
--- "Data set operators", "One set").
+-- A scalar operator on data sets and scalars: on each measure it is what it is on that component (docs/language.md,
+-- "Structures of results").
 use Rattle.std.specs.Prelude.{ℕ, suc, Bool, true, false, not, ◌++◌, List, [], ◌∷◌, map, length, nat_eq, Option, Some, None, Result, Ok, Err, unwrap_or}
 use Rattle.std.specs.List.{list_all}
 use Rattle.std.specs.Option.{option_map_or}

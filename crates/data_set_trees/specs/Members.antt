@@ -1,4 +1,4 @@
--- `a#c` of a data set (docs/language.md, "Data set operators", "One set").
+-- `a#c` of a data set (docs/language.md, "Structures of results").
 use Rattle.std.specs.Prelude.{ℕ, Bool, ◌+◌, List, [], ◌∷◌, Option, Some, None, Ok, if◌then◌else◌}
 use Rattle.vtl_values.specs.declared.kind.Role.TheVariants.{Measure}
 use Rattle.vtl_values.specs.declared.place.Place.{Place}

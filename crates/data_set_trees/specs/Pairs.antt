@@ -1,4 +1,4 @@
--- A scalar operator on two data sets (docs/language.md, "Pairs").
+-- A scalar operator on two data sets (docs/language.md, "Structures of results").
 use Rattle.std.specs.Prelude.{ℕ, Bool, ◌&&◌, ◌||◌, ◌+◌, ◌++◌, List, [], ◌∷◌, map, length, zip, find, filter_map, nat_le, Option, Some, None, option_map, unwrap_or, Result, Ok, if◌then◌else◌}
 use Rattle.std.specs.List.{list_all, list_any}
 use Rattle.vtl_values.specs.Texts.{same_text}

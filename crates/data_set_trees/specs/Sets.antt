@@ -1,4 +1,4 @@
--- Set operators (docs/language.md, "Sets").
+-- Set operators (docs/language.md, "Structures of results").
 use Rattle.std.specs.Prelude.{Bool, List, [], ◌∷◌, map, Option, Some, None, Ok}
 use Rattle.std.specs.List.{list_all}
 use Rattle.std.specs.Option.{option_map}

@@ -4,8 +4,9 @@
 //! set, as a tree with its structure, or a scalar. A scalar operator on data sets works on their measures, so what it is
 //! on them is said by what it is on components: `specs/Forms.antt` has these operators without their operands,
 //! `specs/Lifted.antt` and `specs/Pairs.antt` what they are on one data set and on two, and `specs/Choices.antt`,
-//! `specs/Exists.antt`, `specs/Sets.antt`, `specs/Members.antt` the other operators. The functions that answer so are in
-//! `data_set_typing`.
+//! `specs/Exists.antt`, `specs/Sets.antt`, `specs/Members.antt` the other operators. `specs/OnClauses.antt` has the clauses
+//! of a data set with the expressions in them, and `specs/Expressions.antt` whole expressions. `examples` tries the
+//! operators on small data sets.
 #![tactic(auto)]
 
 pub mod examples;
