@@ -1,0 +1,8 @@
+pub mod Alone
+pub mod Binds
+pub mod Fits
+pub mod Follows
+pub mod Lifts
+pub mod Measured
+pub mod Rooms
+pub mod Zips

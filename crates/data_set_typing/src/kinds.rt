@@ -1,0 +1,85 @@
+// Whether the kinds of operands fit.
+ghost use Rattle.std.specs.Prelude.{◌≡◌, [], IfOk, IfErr, OnOk};
+ghost use Rattle.typing_rules.specs.declared.stop.TypeStop.TheVariants.{Memory};
+ghost use Rattle.data_set_trees.specs.Lifted as meant;
+ghost use Rattle.data_set_typing.specs.Kinds as own;
+
+use crate::call::Call;
+use crate::components::measures;
+use crate::slots::slot_of;
+use data_set_trees::{Measure, Operand};
+use sqlite_items::Items;
+use std::alloc::AllocError;
+use typing_rules::{Slot, TypeStop};
+
+/// Nothing stands for a data set that comes before others.
+fn push_before(before: &mut Items<Option<Slot>>, operand: &Operand) -> Result<(), AllocError>
+    ensures { OnOk result (before.new ≡ own.before_next before.old operand.now) }
+{
+    match operand {
+        Operand::Scalar(_) => Ok(()),
+        Operand::DataSet(_) => before.push(None),
+    }
+}
+
+impl Call<'_> {
+    /// Whether the kinds fit where this measure stands after these.
+    fn fits_after(&self, before: &[Option<Slot>], measure: &Measure) -> Result<bool, TypeStop>
+        ensures ok { IfOk result (λ fit. fit ≡ own.fits_after self.now.form.now self.now.place self.now.operands.now before.now measure.now) }
+        ensures err { IfErr result (λ stop. stop ≡ Memory) }
+    {
+        let mut slots = Items::from_slice(self.alloc, before)?;
+        slots.push(Some(slot_of(measure)))?;
+        self.fits(slots.as_slice())
+    }
+
+    fn measures_fit(&self, before: &[Option<Slot>], measures: &[Measure]) -> Result<bool, TypeStop>
+        ensures ok { IfOk result (λ fit. fit ≡ own.measures_fit self.now.form.now self.now.place self.now.operands.now before.now measures.now) }
+        ensures err { IfErr result (λ stop. stop ≡ Memory) }
+    {
+        for measure in measures {
+            if !self.fits_after(before, measure)? {
+                return Ok(false);
+            }
+        }
+        Ok(true)
+    }
+
+    /// Whether each measure of the operand fits by itself, where it's a data set.
+    fn operand_fits(&self, before: &[Option<Slot>], operand: &Operand) -> Result<bool, TypeStop>
+        ensures ok { IfOk result (λ fit. fit ≡ own.operand_fits self.now.form.now self.now.place self.now.operands.now before.now operand.now) }
+        ensures err { IfErr result (λ stop. stop ≡ Memory) }
+    {
+        match operand {
+            Operand::Scalar(_) => Ok(true),
+            Operand::DataSet(set) => {
+                let measures = measures(self.alloc, set.structure.components())?;
+                self.measures_fit(before, measures.as_slice())
+            }
+        }
+    }
+
+    fn operands_fit(&self) -> Result<bool, TypeStop>
+        ensures ok { IfOk result (λ fit. fit ≡ own.operands_fit self.now.form.now self.now.place self.now.operands.now [] self.now.operands.now) }
+        ensures err { IfErr result (λ stop. stop ≡ Memory) }
+    {
+        let mut before = Items::new(self.alloc);
+        for operand in self.operands {
+            if !self.operand_fits(before.as_slice(), operand)? {
+                return Ok(false);
+            }
+            push_before(&mut before, operand)?;
+        }
+        Ok(true)
+    }
+
+    /// Whether the constants fit the operator and each other, and so does each measure by itself. Or want of memory.
+    pub(crate) fn each_fits(&self) -> Result<bool, TypeStop>
+        ensures ok { IfOk result (λ fit. fit ≡ meant.each_fits self.now.form.now self.now.place self.now.operands.now) }
+        ensures err { IfErr result (λ stop. stop ≡ Memory) }
+    {
+        let constants = self.fits(&[])?;
+        let each = self.operands_fit()?;
+        Ok(constants && each)
+    }
+}

@@ -1,0 +1,60 @@
+// A scalar operator on any operands.
+ghost use Rattle.std.specs.Prelude.{◌≡◌, Ok, IfOk, IfErr};
+ghost use Rattle.typing_rules.specs.Steps.{Refuses};
+ghost use Rattle.data_set_trees.specs.Pairs as meant;
+ghost use Rattle.data_set_typing.specs.Plans as own;
+
+use crate::call::Call;
+use crate::nodes::{applied, data_sets};
+use crate::plan::Plan;
+use data_set_trees::{DataSet, Form, Operand};
+use sqlite_items::Items;
+use std::alloc::{AllocError, Global};
+use typing_rules::TypeStop;
+use vtl_values::Place;
+
+/// A plan carried out on the data sets, or want of memory.
+fn carried_out(
+    alloc: Global,
+    place: Place,
+    plan: Plan,
+    sets: Items<DataSet>,
+) -> Result<Operand, AllocError>
+    ensures { IfOk result (λ operand. operand ≡ own.carried_out place plan sets) }
+{
+    match plan {
+        Plan::Scalar(typed) => Ok(Operand::Scalar(typed)),
+        Plan::Applied {
+            operator,
+            structure,
+        } => Ok(Operand::DataSet(applied(alloc, operator, place, sets, structure)?)),
+    }
+}
+
+/// What a scalar operator at its place is on these operands: a scalar where all are, else a data set; or its first fault, or
+/// want of memory. `WrongType` where the kinds of constants and of measures don't fit; else `WrongStructure` where there are
+/// more data sets than the operator takes, where two don't have the identifiers, measures and viral attributes in common that
+/// it needs, or where it changes the basic type and there isn't one measure; else `NameTwice` where its new name is that of
+/// another component of one data set; else `BadConstant` or `BadPattern` of a constant; and on two data sets `NameTwice` where
+/// a name would stand twice in the result, else `TooManyComponents`. It costs the number of measures times the size of the
+/// scalars among the operands, since the operator is typed once or twice on each; and the square of the number of
+/// components, since identifiers and names are looked up pair by pair.
+pub fn lifted(
+    alloc: Global,
+    form: &Form,
+    place: Place,
+    operands: Items<Operand>,
+) -> Result<Operand, TypeStop>
+    ensures ok { IfOk result (λ o. meant.lifted form.now place operands ≡ Ok o) }
+    ensures err { IfErr result (Refuses (meant.lifted form.now place operands)) }
+{
+    let call = Call {
+        alloc,
+        form,
+        place,
+        operands: operands.as_slice(),
+    };
+    let plan = call.planned()?;
+    let sets = data_sets(alloc, operands)?;
+    Ok(carried_out(alloc, place, plan, sets)?)
+}

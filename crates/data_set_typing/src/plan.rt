@@ -1,0 +1,14 @@
+// What a scalar operator comes to.
+use data_set_trees::DataSetOperator;
+use typing_rules::Typed;
+use vtl_values::Structure;
+
+/// A scalar, or an operator on the data sets among its operands, with the structure of its result.
+#[derive(Drop)]
+pub(crate) enum Plan {
+    Scalar(Typed),
+    Applied {
+        operator: DataSetOperator,
+        structure: Structure,
+    },
+}
