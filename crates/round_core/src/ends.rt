@@ -1,5 +1,5 @@
 // Which statements are ready, and how a round goes on.
-ghost use Rattle.std.specs.Prelude.{◌≡◌, ◌≢◌, ◌<◌, ◌≤◌, ◌↔◌, ℕ, true, false, IfSome, IsTrue, None, length, take, count_by};
+ghost use Rattle.std.specs.Prelude.{◌≡◌, ◌≢◌, ◌<◌, ◌≤◌, ◌↔◌, ℕ, true, false, IfSome, IsTrue, None, Some, length, take, count_by, slice_get, slice_index_or};
 ghost use Rattle.std.specs.List.{All};
 ghost use Rattle.round_core.specs.Slots.{ThereIn, ReadyIn, EachSlot, IsFaultFree, FirstWrong, AllStill, EndsSo, FirstReadyIn, is_out, points_in_all};
 ghost use Rattle.round_core.specs.Kept.{NoneWaits};
@@ -83,7 +83,8 @@ pub fn first_ready(slots: &[Slot], order: &[u64]) -> Option<u64>
 pub fn passed_over(slots: &[Slot], order: &[u64], from: usize) -> usize
     requires below { All (λ i. i < length slots.now) order.now }
     requires passed { NoneWaits slots.now (take from order.now) }
-    ensures { NoneWaits slots.now (take result order.now) }
+    ensures passed { NoneWaits slots.now (take result order.now) }
+    ensures stops { (i : ℕ) → slice_get order.now result ≡ Some i → (d : Slot) → (slice_index_or slots.now i d).stage ≡ Stage.Waiting }
 {
     let mut passed = from;
     while passed < order.len() && !slots[order[passed] as usize].waits() {

@@ -2,7 +2,6 @@
 
 use crate::limits::Full;
 use round_journal::ScriptFault;
-use std::alloc::AllocError;
 
 /// Why a revision was not judged.
 #[derive(Debug, Drop)]
@@ -13,12 +12,6 @@ pub enum SubmitStop {
     Memory,
 }
 
-impl From<AllocError> for SubmitStop {
-    fn from(_: AllocError) -> SubmitStop {
-        SubmitStop::Memory
-    }
-}
-
 /// Why a script was not replaced.
 #[derive(Debug, Drop)]
 pub enum RescriptStop {
@@ -26,12 +19,6 @@ pub enum RescriptStop {
     Full(Full),
     /// Memory was wanting.
     Memory,
-}
-
-impl From<AllocError> for RescriptStop {
-    fn from(_: AllocError) -> RescriptStop {
-        RescriptStop::Memory
-    }
 }
 
 /// Why a round was not opened.
@@ -46,12 +33,6 @@ pub enum OpenStop {
     Full(Full),
     /// Memory was wanting.
     Memory,
-}
-
-impl From<AllocError> for OpenStop {
-    fn from(_: AllocError) -> OpenStop {
-        OpenStop::Memory
-    }
 }
 
 /// Why no statement was handed out.

@@ -38,6 +38,6 @@ returns c =
     let r = c.hand_out-settle.result in
     let passed = c.passed_over-self.result in
     let ripe = ripe_of a c.args.i slot c.requires.kept.within c.requires.kept.sound c.requires.running c.requires.first.ready c.index_mut-slot.ensures.value in
-    let none = subst (λ (xs : List ℕ). NoneWaits (set a.slots.items c.args.i new) (take passed xs)) (c.order.ensures ∙ ap (λ (q : Script). q.order) c.deref.ensures) (subst (λ (v : List Slot). NoneWaits v (take passed c.order.result.now)) c.as_slice.ensures.value c.passed_over-self.ensures) in
+    let none = subst (λ (xs : List ℕ). NoneWaits (set a.slots.items c.args.i new) (take passed xs)) (c.order.ensures ∙ ap (λ (q : Script). q.order) c.deref.ensures) (subst (λ (v : List Slot). NoneWaits v (take passed c.order.result.now)) c.as_slice.ensures.value c.passed_over-self.ensures.passed) in
     let h = kept_claimed a c.note.new.journal (with_item a.slots c.args.i new) slot new c.args.i c.args.by passed r.0 r.1 r.2 c.requires.kept c.requires.running c.requires.first ripe c.hand_out-settle.ensures refl none c.note.ensures.items c.note.ensures.capacity in
     record { kept = h.kept; claims = h.claims; which = refl }
