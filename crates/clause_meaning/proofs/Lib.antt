@@ -8,3 +8,4 @@ pub mod MadeFits
 pub mod Worked
 pub mod Bounded
 pub mod First
+pub mod SubKeys

@@ -43,13 +43,13 @@ AllZip-weaker F G w (x ∷ xs) (y ∷ ys) h = (w x y h.0, AllZip-weaker F G w xs
 
 -- ---- the components that pass
 
-head-at : {A : Type 0} (n : ℕ) (xs : List A) (c : A) (cs : List A) → drop n xs ≡ c ∷ cs → slice_get xs n ≡ Some c
+pub head-at : {A : Type 0} (n : ℕ) (xs : List A) (c : A) (cs : List A) → drop n xs ≡ c ∷ cs → slice_get xs n ≡ Some c
 head-at zero [] c cs h = cc
 head-at zero (x ∷ xs) c cs h = let same : x ≡ c = cc in ap Some same
 head-at (suc n) [] c cs h = cc
 head-at (suc n) (x ∷ xs) c cs h = head-at n xs c cs h
 
-tail-at : {A : Type 0} (n : ℕ) (xs : List A) (c : A) (cs : List A) → drop n xs ≡ c ∷ cs → drop (n + 1) xs ≡ cs
+pub tail-at : {A : Type 0} (n : ℕ) (xs : List A) (c : A) (cs : List A) → drop n xs ≡ c ∷ cs → drop (n + 1) xs ≡ cs
 tail-at zero [] c cs h = cc
 tail-at zero (x ∷ xs) c cs h = let same : xs ≡ cs = cc in same
 tail-at (suc n) [] c cs h = cc

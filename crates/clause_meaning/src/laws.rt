@@ -1,6 +1,7 @@
 // What follows from the definitions, for those who build on them.
 ghost use Rattle.std.specs.Prelude.{◌≡◌, ◌≢◌, ◌≤◌, ℕ, List, [], ◌∷◌, ◌++◌, Some, true, false, is_some, option_and_then};
 ghost use Rattle.std.specs.FinMap.{empty, get, len};
+ghost use Rattle.std.specs.List.{AllZip};
 ghost use Rattle.vtl_values.specs.Order.{key_cmp};
 ghost use Rattle.vtl_values.specs.Structures.{IsStructure};
 ghost use Rattle.vtl_values.specs.declared.value.Value.{Value};
@@ -8,7 +9,7 @@ ghost use Rattle.data_model.specs.Maps.{filtered};
 ghost use Rattle.data_model.specs.declared.TheConstants.{POINT_LIMIT};
 ghost use Rattle.data_model.specs.Outcomes.{Made, TooMany, IsOutcome};
 ghost use Rattle.point_sets.specs.DataSets.{DataSet};
-ghost use Rattle.structured_sets.specs.Fitting.{IsSetOf};
+ghost use Rattle.structured_sets.specs.Fitting.{FitsIdentifier, IsSetOf, identifiers};
 ghost use Rattle.scalar_trees.specs.declared.tree.CheckedExpr.{CheckedExpr};
 ghost use Rattle.clause_trees.specs.declared.clause.CheckedClause.{CheckedClause};
 ghost use Rattle.clause_trees.specs.declared.clause.CheckedClause.TheVariants as clause;
@@ -65,6 +66,17 @@ pub fn points_are_chosen()
         get y left ≡ Some rest →
         (key : List Value) × (get a key ≡ Some rest) × (has_values items key ≡ true) ×
         (key_left items frame key ≡ left) }
+{}
+
+/// At most one key of a data set comes to a key of `sub`: two keys whose identifiers that are named have the values, and
+/// that are the same without these, are one. Values of one identifier are of one kind, so those that are equal as numbers
+/// are equal.
+pub fn sub_keys_differ()
+    ensures { (items : List CheckedSubItem) (frame : Frame) (key other : List Value) → HasIdentifiersFirst frame →
+        AllZip FitsIdentifier (identifiers frame.components) key →
+        AllZip FitsIdentifier (identifiers frame.components) other →
+        has_values items key ≡ true → has_values items other ≡ true →
+        key_left items frame key ≡ key_left items frame other → key ≡ other }
 {}
 
 /// `unpivot` has at a key that ends with a measure's name what its operand has of that measure at the key before it,
