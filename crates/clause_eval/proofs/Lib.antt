@@ -1,0 +1,4 @@
+pub mod Parts
+pub mod Puts
+pub mod RoleLemmas
+pub mod Named

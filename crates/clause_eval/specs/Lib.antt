@@ -1,0 +1,4 @@
+pub mod Roles
+pub mod Points
+pub mod Evaluations
+pub mod Measures
