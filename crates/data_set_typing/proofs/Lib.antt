@@ -1,7 +1,4 @@
 pub mod Alone
-pub mod Binds
-pub mod Fits
-pub mod Follows
 pub mod Lifts
 pub mod Measured
 pub mod Rooms

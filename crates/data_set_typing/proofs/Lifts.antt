@@ -18,8 +18,9 @@ use Rattle.data_set_trees.specs.Lifted.{answer, slot_of, each_fits, set_place, c
 use Rattle.data_set_trees.specs.Pairs.{both, pairs_checked, result_fits, joined, on_two, lifted_on, lifted}
 use Rattle.data_set_typing.specs.declared.plan.Plan.{Plan}
 use Rattle.data_set_typing.specs.declared.plan.Plan.TheVariants as plan
-use Rattle.data_set_typing.specs.Plans.{each, measure_checked, demands_on_one, items_on_one, of_one, planned_on_one, pair_checked, met_of, demands_on_two, items_on_two, of_two, planned_on_two, planned_on_none, too_many, planned_on, planned, carried_out}
-use Rattle.data_set_typing.proofs.Follows.{assoc}
+use Rattle.data_set_parts.specs.Walks.{each}
+use Rattle.data_set_typing.specs.Plans.{measure_checked, demands_on_one, items_on_one, of_one, planned_on_one, pair_checked, met_of, demands_on_two, items_on_two, of_two, planned_on_two, planned_on_none, too_many, planned_on, planned, carried_out}
+use Rattle.data_set_parts.proofs.Follows.{assoc}
 
 -- ---- one item after the other
 

@@ -4,7 +4,7 @@ use Rattle.std.specs.Prelude.{nat_eq, fold}
 use Rattle.std.specs.List.{All, AllPairs, filter, filter_map, slice_get}
 use Rattle.std.proofs.lemmas.Bool.{false≢true, eqb-true}
 use Rattle.std.proofs.lemmas.List.{append_assoc, append-nil, get_or-map, length-map}
-use Rattle.std.proofs.lemmas.List.Elements.{All-nil, All-cons, All-append, All-map, All-weaker, All-filter, filter_map-append}
+use Rattle.std.proofs.lemmas.List.Elements.{All-nil, All-cons, All-append, All-weaker, All-filter, filter_map-append}
 use Rattle.std.proofs.lemmas.List.Kept.{AllPairs-filter}
 use Rattle.vtl_values.specs.declared.kind.Kind.TheVariants.{Truth}
 use Rattle.vtl_values.specs.declared.kind.Role.{Role}
@@ -22,16 +22,19 @@ use Rattle.clause_trees.specs.Frames.{has_role, frame_of, numbers_of}
 use Rattle.clause_trees.specs.After.{made, with_measure, staying, measured}
 use Rattle.clause_trees.specs.Laws.{FitTogether}
 use Rattle.clause_trees.proofs.Parts.{left_from, picked_are, pairs_head, pairs_tail}
-use Rattle.clause_trees.proofs.Ordered.{orders_structures}
+use Rattle.clause_trees.proofs.Ordered.{role_is, pairs_append, orders_structures}
 use Rattle.data_set_trees.specs.declared.form.Form.{Form}
 use Rattle.data_set_trees.specs.declared.measure.Measure as declared
 use Rattle.data_set_trees.specs.declared.operand.Operand.{Operand}
 use Rattle.data_set_trees.specs.Components.{identifiers, virals, measures, measures_from}
 use Rattle.data_set_trees.specs.Lifted.{answer, each_fits, has_one_if, is_free, checked_measure}
 use Rattle.data_set_trees.specs.Pairs.{measure_component}
-use Rattle.data_set_typing.specs.Plans.{each, measure_checked, demands_on_one, items_on_one, structure_after}
-use Rattle.data_set_typing.proofs.Follows.{gave, first_met}
-use Rattle.data_set_typing.proofs.Fits.{IsSound, all_sound, free_from, unlisted_is, pairs_append, role_is, measure_sound}
+use Rattle.data_set_parts.specs.Results.{structure_after}
+use Rattle.data_set_parts.specs.Walks.{each}
+use Rattle.data_set_typing.specs.Plans.{measure_checked, demands_on_one, items_on_one}
+use Rattle.data_set_parts.proofs.Follows.{gave, first_met}
+use Rattle.data_set_parts.specs.Joins.{IsSound}
+use Rattle.data_set_parts.proofs.Fits.{all_sound, free_from, unlisted_is, measures_made}
 
 -- ---- the components that stay, and the measures
 
@@ -150,7 +153,7 @@ fits_by : (items : List CheckedMeasure) (s ys : List Component) → IsStructure 
 fits_by items s ys is same pairs apart =
     let ms = map measure_component items in
     let sound : All IsSound (stay s ++ ms) =
-    All-append IsSound (stay s) ms (All-append IsSound (identifiers s) (virals s) (All-filter (has_role Identifier) IsSound s (all_sound s is)) (All-filter (has_role Viral) IsSound s (all_sound s is))) (All-map IsSound measure_component items (λ k d within. measure_sound (get_or items k d)))
+    All-append IsSound (stay s) ms (All-append IsSound (identifiers s) (virals s) (All-filter (has_role Identifier) IsSound s (all_sound s is)) (All-filter (has_role Viral) IsSound s (all_sound s is))) (λ k d within. (measures_made items k d within).sound)
     in
     record {
       names_differ = pairs_append Apart (stay s) ms (stay_apart s is.names_differ) (pairs_by_name ms ys same pairs) (across_by_name (stay s) ms ys same apart);

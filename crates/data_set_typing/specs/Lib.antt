@@ -1,5 +1,3 @@
-pub mod Shapes
-pub mod Joins
 pub mod Kinds
 pub mod Meetings
 pub mod Plans

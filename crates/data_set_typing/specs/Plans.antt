@@ -7,10 +7,7 @@ use Rattle.typing_rules.specs.declared.stop.Fault.TheVariants.{WrongType, WrongS
 use Rattle.typing_rules.specs.declared.stop.Refusal.{Refusal}
 use Rattle.typing_rules.specs.Steps.{◌>>=◌, refused}
 use Rattle.clause_trees.specs.declared.clause.CheckedMeasure.{CheckedMeasure}
-use Rattle.clause_trees.specs.declared.clause.CheckedClause.{CheckedClause}
 use Rattle.clause_trees.specs.declared.clause.CheckedClause.TheVariants as clause
-use Rattle.clause_trees.specs.Frames.{frame_of}
-use Rattle.clause_trees.specs.After.{after}
 use Rattle.clause_trees.specs.Clauses.{demands}
 use Rattle.data_set_trees.specs.declared.form.Form.{Form}
 use Rattle.data_set_trees.specs.declared.measure.Measure.{Measure}
@@ -18,22 +15,15 @@ use Rattle.data_set_trees.specs.declared.operand.DataSet.{DataSet}
 use Rattle.data_set_trees.specs.declared.operand.Operand.{Operand}
 use Rattle.data_set_trees.specs.declared.operand.Operand.TheVariants as operand
 use Rattle.data_set_trees.specs.declared.tree.DataSetOperator.TheVariants as operator
-use Rattle.data_set_trees.specs.Components.{unlisted, measures, virals_agree}
+use Rattle.data_set_trees.specs.Components.{measures, virals_agree}
 use Rattle.data_set_trees.specs.Forms.{changed_name, is_of_two}
-use Rattle.data_set_trees.specs.Trees.{applied, data_sets}
+use Rattle.data_set_trees.specs.Trees.{applied}
 use Rattle.data_set_trees.specs.Lifted.{answer, slot_of, all_fit, each_fits, set_place, has_one_if, is_free, checked_measure}
 use Rattle.data_set_trees.specs.Pairs.{both, meeting, identifiers_agree, measures_agree, result_fits, joined}
+use Rattle.data_set_parts.specs.Results.{structures_of, structure_after}
+use Rattle.data_set_parts.specs.Walks.{each}
 use Rattle.data_set_typing.specs.declared.plan.Plan.{Plan}
 use Rattle.data_set_typing.specs.declared.plan.Plan.TheVariants as plan
-
--- what each item comes to, or the first fault
-abbrev pub each : {X Y : Type 0} → (X → Result Y Refusal) → List X → Result (List Y) Refusal
-each h [] = Ok []
-each h (x ∷ xs) = h x >>= (λ y. each h xs >>= (λ ys. Ok (y ∷ ys)))
-
--- the structures of the data sets among operands
-abbrev pub structures_of : List Operand → List (List Component)
-structures_of operands = map (λ (d : DataSet). d.structure) (data_sets operands)
 
 -- what the operator is where these stand for its data sets, as a measure of the new name if there is one
 abbrev pub checked_at : Form → Place → List Operand → List (Option Slot) → Option (List ℕ) → List ℕ → Result CheckedMeasure Refusal
@@ -56,10 +46,6 @@ demands_on_one form place operands changed s =
 abbrev pub items_on_one : Form → Place → List Operand → Option (List ℕ) → List Component → Result (List CheckedMeasure) Refusal
 items_on_one form place operands changed s =
     demands_on_one form place operands changed s >>= (λ met. answer form place operands [] >>= (λ constants. each (measure_checked form place operands changed) (measures s)))
-
--- what a clause leaves of a structure
-abbrev pub structure_after : CheckedClause → List Component → List Component
-structure_after c s = map unlisted (after c (frame_of s)).components
 
 abbrev pub of_one : List Component → List CheckedMeasure → Plan
 of_one s items = plan.Applied (operator.Clause (clause.Measures items)) (structure_after (clause.Measures items) s)

@@ -5,8 +5,8 @@ ghost use Rattle.data_set_trees.specs.Lifted as meant;
 ghost use Rattle.data_set_typing.specs.Kinds as own;
 
 use crate::call::Call;
-use crate::components::measures;
-use crate::slots::slot_of;
+use data_set_parts::components::measures;
+use data_set_parts::measures::slot_of;
 use data_set_trees::{Measure, Operand};
 use sqlite_items::Items;
 use std::alloc::AllocError;

@@ -1,7 +1,7 @@
 //! What operators on data sets are checked to be, or their faults.
 //!
 //! It stands on `data_set_trees` for the trees and the definitions, on `operator_typing` for scalar operators, and on
-//! `clause_typing` for what a clause leaves. `lifted` types a scalar operator on data sets and constants: `call` answers
+//! `data_set_parts` for structures and trees. `lifted` types a scalar operator on data sets and constants: `call` answers
 //! what the operator is where components stand for its data sets, `kinds` whether the kinds fit, `one` and `pairs` what it
 //! comes to on one data set and on two, `planning` which of these it is, and `lifting` carries that out. Its operands are
 //! typed by the caller.
@@ -12,17 +12,11 @@
 
 mod call;
 mod checked;
-mod clauses;
-mod components;
-mod copies;
-mod demands;
 mod forms;
-mod joins;
 mod kinds;
 mod lifting;
 mod meetings;
 mod names;
-mod nodes;
 mod one;
 mod pairs;
 mod plan;

@@ -5,8 +5,8 @@ ghost use Rattle.data_set_trees.specs.Pairs as meant;
 ghost use Rattle.data_set_typing.specs.Plans as own;
 
 use crate::call::Call;
-use crate::nodes::{applied, data_sets};
 use crate::plan::Plan;
+use data_set_parts::nodes::{applied, data_sets};
 use data_set_trees::{DataSet, Form, Operand};
 use sqlite_items::Items;
 use std::alloc::{AllocError, Global};

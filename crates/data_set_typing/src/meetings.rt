@@ -1,11 +1,12 @@
 // What two data sets have in common.
-ghost use Rattle.std.specs.Prelude.{◌≡◌, find, zip, IfOk};
+ghost use Rattle.std.specs.Prelude.{◌≡◌, zip, IfOk};
 ghost use Rattle.std.specs.List.{list_any};
 ghost use Rattle.data_set_trees.specs.Lifted as lifted;
 ghost use Rattle.data_set_trees.specs.Pairs as meant;
 ghost use Rattle.data_set_typing.specs.Meetings as own;
 
-use crate::components::{identifiers, include};
+use data_set_parts::components::{identifiers, include};
+use data_set_parts::measures::{copy_measure, is_called, namesake};
 use data_set_trees::Measure;
 use sqlite_items::{Items, at as measure_at};
 use std::alloc::{AllocError, Global};
@@ -22,12 +23,6 @@ pub(crate) fn identifiers_agree(
     let first = identifiers(alloc, components)?;
     let second = identifiers(alloc, others)?;
     Ok(include(first.as_slice(), second.as_slice()) || include(second.as_slice(), first.as_slice()))
-}
-
-fn is_called(name: &Word, measure: &Measure) -> bool
-    ensures { result ≡ meant.is_called name.now measure.now }
-{
-    *name == measure.name
 }
 
 fn has_namesake(measure: &Measure, others: &[Measure]) -> bool
@@ -64,27 +59,6 @@ pub(crate) fn measures_agree(
         Some(_) => has_one_if(changed, measures) && has_one_if(changed, others),
         None => are_among(measures, others) && are_among(others, measures),
     }
-}
-
-fn copy_measure(measure: &Measure) -> Result<Measure, AllocError>
-    ensures { IfOk result (λ copy. copy ≡ measure.now) }
-{
-    Ok(Measure {
-        number: measure.number,
-        name: measure.name.copy()?,
-        kind: measure.kind,
-    })
-}
-
-fn namesake(name: &Word, measures: &[Measure]) -> Result<Option<Measure>, AllocError>
-    ensures { IfOk result (λ found. found ≡ find (meant.is_called name.now) measures.now) }
-{
-    for measure in measures {
-        if is_called(name, measure) {
-            return Ok(Some(copy_measure(measure)?));
-        }
-    }
-    Ok(None)
 }
 
 /// The measures of one name.

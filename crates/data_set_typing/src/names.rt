@@ -1,37 +1,19 @@
 // The names of measures whose basic type changes.
 ghost use Rattle.std.specs.Prelude.{◌≡◌, IfOk};
-ghost use Rattle.data_set_trees.specs.Components as names;
 ghost use Rattle.data_set_trees.specs.Forms as meant;
 
+use data_set_parts::names::name_of_kind;
 use data_set_trees::Form;
 use scalar_trees::{BinaryOperator, UnaryOperator};
 use std::alloc::{AllocError, Global};
-use vtl_values::Word;
-
-fn bool_var(alloc: Global) -> Result<Word, AllocError>
-    ensures { IfOk result (λ name. name ≡ names.BOOL_VAR) }
-{
-    Word::from_str(alloc, "bool_var")
-}
-
-fn int_var(alloc: Global) -> Result<Word, AllocError>
-    ensures { IfOk result (λ name. name ≡ names.INT_VAR) }
-{
-    Word::from_str(alloc, "int_var")
-}
-
-fn string_var(alloc: Global) -> Result<Word, AllocError>
-    ensures { IfOk result (λ name. name ≡ names.STRING_VAR) }
-{
-    Word::from_str(alloc, "string_var")
-}
+use vtl_values::{Kind, Word};
 
 fn unary_name(alloc: Global, operator: UnaryOperator) -> Result<Option<Word>, AllocError>
     ensures { IfOk result (λ name. name ≡ meant.unary_name operator) }
 {
     match operator {
-        UnaryOperator::Length => Ok(Some(int_var(alloc)?)),
-        UnaryOperator::Isnull => Ok(Some(bool_var(alloc)?)),
+        UnaryOperator::Length => Ok(Some(name_of_kind(alloc, Kind::Integer)?)),
+        UnaryOperator::Isnull => Ok(Some(name_of_kind(alloc, Kind::Truth)?)),
         UnaryOperator::Plus
         | UnaryOperator::Minus
         | UnaryOperator::Not
@@ -50,13 +32,13 @@ fn binary_name(alloc: Global, operator: BinaryOperator) -> Result<Option<Word>, 
     ensures { IfOk result (λ name. name ≡ meant.binary_name operator) }
 {
     match operator {
-        BinaryOperator::Instr => Ok(Some(int_var(alloc)?)),
+        BinaryOperator::Instr => Ok(Some(name_of_kind(alloc, Kind::Integer)?)),
         BinaryOperator::Equal
         | BinaryOperator::NotEqual
         | BinaryOperator::Less
         | BinaryOperator::Greater
         | BinaryOperator::AtMost
-        | BinaryOperator::AtLeast => Ok(Some(bool_var(alloc)?)),
+        | BinaryOperator::AtLeast => Ok(Some(name_of_kind(alloc, Kind::Truth)?)),
         BinaryOperator::Plus
         | BinaryOperator::Minus
         | BinaryOperator::Times
@@ -74,7 +56,7 @@ fn substr_name(alloc: Global, at: usize) -> Result<Option<Word>, AllocError>
 {
     match at {
         0 => Ok(None),
-        _ => Ok(Some(string_var(alloc)?)),
+        _ => Ok(Some(name_of_kind(alloc, Kind::Text)?)),
     }
 }
 
@@ -91,11 +73,11 @@ pub(crate) fn changed_name(
         Form::Binary(operator) => binary_name(alloc, *operator),
         Form::Nvl => Ok(None),
         Form::If => Ok(None),
-        Form::In { .. } => Ok(Some(bool_var(alloc)?)),
-        Form::Between { .. } => Ok(Some(bool_var(alloc)?)),
+        Form::In { .. } => Ok(Some(name_of_kind(alloc, Kind::Truth)?)),
+        Form::Between { .. } => Ok(Some(name_of_kind(alloc, Kind::Truth)?)),
         Form::Round { .. } => Ok(None),
         Form::Substr => substr_name(alloc, at),
         Form::Replace => Ok(None),
-        Form::Matches { .. } => Ok(Some(bool_var(alloc)?)),
+        Form::Matches { .. } => Ok(Some(name_of_kind(alloc, Kind::Truth)?)),
     }
 }

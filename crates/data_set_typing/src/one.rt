@@ -2,14 +2,16 @@
 ghost use Rattle.std.specs.Prelude.{◌≡◌, Ok, IfOk, IfErr};
 ghost use Rattle.typing_rules.specs.Steps.{Refuses};
 ghost use Rattle.data_set_trees.specs.Lifted as meant;
+ghost use Rattle.data_set_parts.specs.Walks as walks;
 ghost use Rattle.data_set_typing.specs.Plans as own;
 
 use crate::call::Call;
-use crate::components::{identifiers, is_taken, measures, virals};
-use crate::demands::demands;
 use crate::meetings::has_one_if;
-use crate::slots::slot_of;
 use clause_trees::CheckedMeasure;
+use data_set_parts::components::measures;
+use data_set_parts::demands::demands;
+use data_set_parts::measures::slot_of;
+use data_set_parts::names;
 use data_set_trees::Measure;
 use sqlite_items::Items;
 use std::alloc::{AllocError, Global};
@@ -25,11 +27,7 @@ pub(crate) fn is_free(
     ensures { IfOk result (λ free. free ≡ meant.is_free name.now components.now) }
 {
     match name {
-        Some(name) => {
-            let mut staying = identifiers(alloc, components)?;
-            staying.append(virals(alloc, components)?)?;
-            Ok(!is_taken(name, staying.as_slice()))
-        }
+        Some(name) => names::is_free(alloc, name, components),
         None => Ok(true),
     }
 }
@@ -52,8 +50,8 @@ impl Call<'_> {
         measures: &[Measure],
     ) -> Result<Items<CheckedMeasure>, TypeStop>
         ensures ok { IfOk result
-            (λ all. own.each (own.measure_checked self.now.form.now self.now.place self.now.operands.now changed.now) measures.now ≡ Ok all) }
-        ensures err { IfErr result (Refuses (own.each (own.measure_checked self.now.form.now self.now.place self.now.operands.now changed.now) measures.now)) }
+            (λ all. walks.each (own.measure_checked self.now.form.now self.now.place self.now.operands.now changed.now) measures.now ≡ Ok all) }
+        ensures err { IfErr result (Refuses (walks.each (own.measure_checked self.now.form.now self.now.place self.now.operands.now changed.now) measures.now)) }
     {
         let mut all = Items::new(self.alloc);
         for measure in measures {

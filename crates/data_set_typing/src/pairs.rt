@@ -5,16 +5,18 @@ ghost use Rattle.typing_rules.specs.declared.stop.TypeStop.TheVariants.{Memory};
 ghost use Rattle.typing_rules.specs.Steps.{Refuses};
 ghost use Rattle.data_set_trees.specs.Lifted as lifted;
 ghost use Rattle.data_set_trees.specs.Pairs as meant;
+ghost use Rattle.data_set_parts.specs.Walks as walks;
 ghost use Rattle.data_set_typing.specs.Plans as own;
 
 use crate::call::Call;
-use crate::components::{measures, names_differ, virals_agree};
-use crate::demands::demands;
-use crate::joins::{joined, listed};
 use crate::meetings::{identifiers_agree, measures_agree, meeting};
 use crate::plan::Plan;
-use crate::slots::slot_of;
 use clause_trees::CheckedMeasure;
+use data_set_parts::components::{measures, virals_agree};
+use data_set_parts::demands::demands;
+use data_set_parts::joins::joined;
+use data_set_parts::measures::slot_of;
+use data_set_parts::results::fitting;
 use data_set_trees::{DataSetOperator, Measure};
 use sqlite_items::Items;
 use std::alloc::{AllocError, Global};
@@ -72,25 +74,6 @@ fn structures_meet(
     Ok(identifiers && (measures && virals))
 }
 
-const MOST_COMPONENTS: usize = 64;
-
-/// A result has each name once, and at most so many components.
-fn result_fits(place: Place, components: &[Component]) -> Result<(), TypeStop>
-    ensures ok { IfOk result (λ met. meant.result_fits place components.now ≡ Ok met) }
-    ensures err { IfErr result (Refuses (meant.result_fits place components.now)) }
-{
-    demands(
-        place,
-        &[
-            (names_differ(components), Fault::NameTwice),
-            (
-                components.len() <= MOST_COMPONENTS,
-                Fault::TooManyComponents,
-            ),
-        ],
-    )
-}
-
 /// The structure of a result with these measures; `NameTwice` where a name would stand twice in it, else
 /// `TooManyComponents`, or want of memory.
 fn joined_structure(
@@ -105,9 +88,7 @@ fn joined_structure(
     ensures err { IfErr result (Refuses (meant.result_fits place (meant.joined items.now structure.now other.now))) }
 {
     let all = joined(alloc, items, structure.components(), other.components())?;
-    result_fits(place, all.as_slice())?;
-    let list = listed(alloc, all.as_slice())?;
-    Ok(Structure::of(alloc, list)?)
+    fitting(alloc, place, all.as_slice())
 }
 
 /// Whether each measure fits by itself, and so do those that meet.
@@ -139,8 +120,8 @@ impl Call<'_> {
     ) -> Result<Items<CheckedMeasure>, TypeStop>
         requires { All (λ p. count + p.1.number < 2 ^ 64) met.now }
         ensures ok { IfOk result
-            (λ all. own.each (own.pair_checked self.now.form.now self.now.place self.now.operands.now changed.now count) met.now ≡ Ok all) }
-        ensures err { IfErr result (Refuses (own.each (own.pair_checked self.now.form.now self.now.place self.now.operands.now changed.now count) met.now)) }
+            (λ all. walks.each (own.pair_checked self.now.form.now self.now.place self.now.operands.now changed.now count) met.now ≡ Ok all) }
+        ensures err { IfErr result (Refuses (walks.each (own.pair_checked self.now.form.now self.now.place self.now.operands.now changed.now count) met.now)) }
     {
         let mut all = Items::new(self.alloc);
         for pair in met {

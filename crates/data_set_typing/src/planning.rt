@@ -4,15 +4,17 @@ ghost use Rattle.vtl_values.specs.Structures.{IsStructure};
 ghost use Rattle.typing_rules.specs.Steps.{Refuses};
 ghost use Rattle.clause_trees.specs.declared.clause.CheckedClause.TheVariants as clause;
 ghost use Rattle.data_set_trees.specs.Lifted as sets;
+ghost use Rattle.data_set_parts.specs.Results as parts;
 ghost use Rattle.data_set_typing.specs.Plans as own;
 
 use crate::call::Call;
-use crate::clauses::structure_after;
-use crate::demands::demands;
 use crate::forms::is_of_two;
 use crate::names::changed_name;
 use crate::plan::Plan;
 use clause_trees::{CheckedClause, CheckedMeasure};
+use data_set_parts::clauses::structure_after;
+use data_set_parts::demands::demands;
+use data_set_parts::nodes::structures_of;
 use data_set_trees::{DataSetOperator, Operand};
 use sqlite_items::Items;
 use std::alloc::{AllocError, Global};
@@ -31,26 +33,13 @@ fn set_place(operands: &[Operand]) -> usize
     operands.len()
 }
 
-/// The structures of the data sets, or want of memory.
-fn structures_of(alloc: Global, operands: &[Operand]) -> Result<Items<Structure>, AllocError>
-    ensures { IfOk result (λ found. found ≡ own.structures_of operands.now) }
-{
-    let mut found = Items::new(alloc);
-    for operand in operands {
-        if let Operand::DataSet(set) = operand {
-            found.push(set.structure.copy()?)?;
-        }
-    }
-    Ok(found)
-}
-
 /// These measures in place of those of the data set.
 fn of_one(
     alloc: Global,
     structure: &Structure,
     items: Items<CheckedMeasure>,
 ) -> Result<Plan, AllocError>
-    requires { IsStructure (own.structure_after (clause.Measures items) structure.now) }
+    requires { IsStructure (parts.structure_after (clause.Measures items) structure.now) }
     ensures { IfOk result (λ plan. plan ≡ own.of_one structure.now items) }
 {
     let clause = CheckedClause::Measures { items };

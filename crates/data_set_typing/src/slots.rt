@@ -3,38 +3,12 @@ ghost use Rattle.std.specs.Prelude.{◌≡◌, drop, unwrap_or, slice_get, IfOk}
 ghost use Rattle.data_set_trees.specs.Lifted as meant;
 ghost use Rattle.data_set_typing.specs.Slots as own;
 
-use crate::copies::copy_typed;
-use data_set_trees::{Measure, Operand};
-use scalar_trees::CheckedExpr;
+use data_set_parts::copies::copy_typed;
+use data_set_parts::measures::stands;
+use data_set_trees::Operand;
 use sqlite_items::Items;
 use std::alloc::{AllocError, Global};
 use typing_rules::{Slot, Typed};
-use vtl_values::Value;
-
-pub(crate) fn slot_of(measure: &Measure) -> Slot
-    ensures { result ≡ meant.slot_of measure.now }
-{
-    Slot {
-        number: measure.number,
-        kind: measure.kind,
-    }
-}
-
-/// What stands for a data set: a component of it, or nothing, which agrees with everything, as null does.
-fn stands(slot: Option<Slot>) -> Typed
-    ensures { result ≡ meant.stands slot }
-{
-    match slot {
-        Some(slot) => Typed {
-            tree: CheckedExpr::Component(slot.number),
-            kind: Some(slot.kind),
-        },
-        None => Typed {
-            tree: CheckedExpr::Literal(Value::Null),
-            kind: None,
-        },
-    }
-}
 
 fn first_slot(slots: &[Option<Slot>]) -> Option<Slot>
     ensures { result ≡ own.first_slot slots.now }

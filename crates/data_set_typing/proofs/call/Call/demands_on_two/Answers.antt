@@ -6,7 +6,7 @@ use Rattle.data_set_trees.specs.declared.measure.Measure.{Measure}
 use Rattle.data_set_trees.specs.Lifted.{all_fit}
 use Rattle.data_set_trees.specs.Pairs.{both}
 use Rattle.data_set_typing.specs.Plans.{demands_on_two}
-use Rattle.data_set_typing.proofs.Follows.{ok_same, err_same}
+use Rattle.data_set_parts.proofs.Follows.{ok_same, err_same}
 use Rattle.data_set_typing.proofs.call.Call.demands_on_two.Goals as goal
 
 pub pairs_fit-requires : goal.pairs_fit-requires

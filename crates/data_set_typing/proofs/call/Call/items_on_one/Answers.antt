@@ -3,7 +3,8 @@ use Rattle.typing_rules.specs.Steps.{◌>>=◌}
 use Rattle.operator_typing.proofs.Steps.{stops_there, fails_there, fails_after}
 use Rattle.data_set_trees.specs.Components.{measures}
 use Rattle.data_set_trees.specs.Lifted.{answer}
-use Rattle.data_set_typing.specs.Plans.{each, measure_checked, demands_on_one}
+use Rattle.data_set_parts.specs.Walks.{each}
+use Rattle.data_set_typing.specs.Plans.{measure_checked, demands_on_one}
 use Rattle.data_set_typing.proofs.call.Call.items_on_one.Goals as goal
 
 pub returns-in_err-demands_on_one-clause-err : goal.returns-in_err-demands_on_one-clause-err

@@ -2,8 +2,9 @@ use Rattle.std.proofs.Common.{◌+◌, ◌<◌, ◌^◌, List, length, ap, sym, 
 use Rattle.std.specs.List.{All}
 use Rattle.data_set_trees.specs.declared.measure.Measure.{Measure}
 use Rattle.operator_typing.proofs.Steps.{fails_there, goes_on}
-use Rattle.data_set_typing.specs.Plans.{each, pair_checked, met_of, demands_on_two, items_on_two}
-use Rattle.data_set_typing.proofs.Follows.{ok_same, err_same}
+use Rattle.data_set_parts.specs.Walks.{each}
+use Rattle.data_set_typing.specs.Plans.{pair_checked, met_of, demands_on_two, items_on_two}
+use Rattle.data_set_parts.proofs.Follows.{ok_same, err_same}
 use Rattle.data_set_typing.proofs.call.Call.items_on_two.Goals as goal
 
 pub returns-in_err-demands_on_two-clause-err : goal.returns-in_err-demands_on_two-clause-err

@@ -2,8 +2,9 @@ use Rattle.std.proofs.Common.{◌+◌, List, drop, ap, sym, ◌∙◌}
 use Rattle.std.proofs.Math.ListN.{drop_of_length-le}
 use Rattle.clause_trees.specs.declared.clause.CheckedMeasure.{CheckedMeasure}
 use Rattle.operator_typing.proofs.Steps.{passed_on}
-use Rattle.data_set_typing.specs.Plans.{each, measure_checked}
-use Rattle.data_set_typing.proofs.Binds.{left_after, each_starts, each_more, each_stops, each_ends}
+use Rattle.data_set_parts.specs.Walks.{each}
+use Rattle.data_set_typing.specs.Plans.{measure_checked}
+use Rattle.data_set_parts.proofs.Binds.{left_after, each_starts, each_more, each_stops, each_ends}
 use Rattle.data_set_typing.proofs.call.Call.measures_checked.Goals as goal
 
 pub loop-measure-init : goal.loop-measure-init

@@ -1,6 +1,7 @@
 use Rattle.std.proofs.Common.{◌≡◌, drop}
-use Rattle.data_set_typing.specs.Plans.{each, measure_checked}
-use Rattle.data_set_typing.proofs.Binds.{left_after}
+use Rattle.data_set_parts.specs.Walks.{each}
+use Rattle.data_set_typing.specs.Plans.{measure_checked}
+use Rattle.data_set_parts.proofs.Binds.{left_after}
 use Rattle.data_set_typing.proofs.call.Call.measures_checked.Given as goal
 
 abbrev pub invariant-loop-measure : goal.invariant-loop-measure

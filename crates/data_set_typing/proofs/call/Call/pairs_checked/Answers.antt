@@ -3,8 +3,9 @@ use Rattle.std.proofs.Math.ListN.{drop_of_length-le}
 use Rattle.clause_trees.specs.declared.clause.CheckedMeasure.{CheckedMeasure}
 use Rattle.typing_rules.specs.declared.scope.Slot.{Slot}
 use Rattle.operator_typing.proofs.Steps.{passed_on, stops_same}
-use Rattle.data_set_typing.specs.Plans.{each, checked_at, pair_checked}
-use Rattle.data_set_typing.proofs.Binds.{left_after, each_starts, each_more, each_stops, each_ends}
+use Rattle.data_set_parts.specs.Walks.{each}
+use Rattle.data_set_typing.specs.Plans.{checked_at, pair_checked}
+use Rattle.data_set_parts.proofs.Binds.{left_after, each_starts, each_more, each_stops, each_ends}
 use Rattle.data_set_typing.proofs.call.Call.pairs_checked.Goals as goal
 
 pub loop-pair-init : goal.loop-pair-init

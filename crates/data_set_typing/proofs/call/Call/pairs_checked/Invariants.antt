@@ -1,6 +1,7 @@
 use Rattle.std.proofs.Common.{◌≡◌, drop}
-use Rattle.data_set_typing.specs.Plans.{each, pair_checked}
-use Rattle.data_set_typing.proofs.Binds.{left_after}
+use Rattle.data_set_parts.specs.Walks.{each}
+use Rattle.data_set_typing.specs.Plans.{pair_checked}
+use Rattle.data_set_parts.proofs.Binds.{left_after}
 use Rattle.data_set_typing.proofs.call.Call.pairs_checked.Given as goal
 
 abbrev pub invariant-loop-pair : goal.invariant-loop-pair

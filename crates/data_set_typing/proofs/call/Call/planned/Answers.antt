@@ -1,7 +1,7 @@
 use Rattle.std.proofs.Common.{ap, ◌∙◌}
 use Rattle.data_set_trees.specs.Forms.{changed_name}
 use Rattle.data_set_typing.specs.Plans.{planned_on, planned}
-use Rattle.data_set_typing.proofs.Follows.{ok_same, err_same}
+use Rattle.data_set_parts.proofs.Follows.{ok_same, err_same}
 use Rattle.data_set_typing.proofs.call.Call.planned.Goals as goal
 
 pub returns-clause-ok : goal.returns-clause-ok

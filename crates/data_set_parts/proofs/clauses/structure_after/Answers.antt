@@ -1,0 +1,17 @@
+use Rattle.std.proofs.Common.{◌≡◌, map, ap, sym, subst, ◌∙◌}
+use Rattle.vtl_values.specs.Structures.{IsStructure}
+use Rattle.clause_trees.specs.declared.frame.Frame.{Frame}
+use Rattle.clause_trees.specs.Frames.{frame_of}
+use Rattle.clause_trees.specs.After.{after}
+use Rattle.data_set_trees.specs.Components.{unlisted}
+use Rattle.data_set_parts.specs.Results.{structure_after}
+use Rattle.data_set_parts.proofs.clauses.structure_after.Goals as goal
+
+pub of-requires : goal.of-requires
+of-requires c =
+    let clause = c.args.clause.now in
+    let s = c.args.structure.now in
+    let frame : c.in_ok-frame.frame ≡ frame_of s = c.in_ok-frame.ensures ∙ ap frame_of c.components.ensures.value in
+    let left : c.in_ok-after.after ≡ after clause (frame_of s) = c.in_ok-after.ensures ∙ ap (after clause) frame in
+    let list : c.in_ok-list.list.items ≡ structure_after clause s = c.in_ok-list.ensures ∙ ap (map unlisted) (c.as_slice.ensures ∙ ap (λ (f : Frame). f.components) left) in
+    subst IsStructure (sym list) c.requires

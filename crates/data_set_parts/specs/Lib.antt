@@ -1,0 +1,4 @@
+pub mod Joins
+pub mod Results
+pub mod Shapes
+pub mod Walks

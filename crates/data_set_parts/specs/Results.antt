@@ -1,0 +1,18 @@
+-- The structures of results.
+use Rattle.std.specs.Prelude.{List, map}
+use Rattle.vtl_values.specs.declared.structure.Component.{Component}
+use Rattle.clause_trees.specs.declared.clause.CheckedClause.{CheckedClause}
+use Rattle.clause_trees.specs.Frames.{frame_of}
+use Rattle.clause_trees.specs.After.{after}
+use Rattle.data_set_trees.specs.declared.operand.DataSet.{DataSet}
+use Rattle.data_set_trees.specs.declared.operand.Operand.{Operand}
+use Rattle.data_set_trees.specs.Components.{unlisted}
+use Rattle.data_set_trees.specs.Trees.{data_sets}
+
+-- what a clause leaves of a structure
+abbrev pub structure_after : CheckedClause → List Component → List Component
+structure_after c s = map unlisted (after c (frame_of s)).components
+
+-- the structures of the data sets among operands
+abbrev pub structures_of : List Operand → List (List Component)
+structures_of operands = map (λ (d : DataSet). d.structure) (data_sets operands)

@@ -1,6 +1,0 @@
-use Rattle.std.proofs.Common.{◌≡◌, ◌++◌, drop}
-use Rattle.data_set_trees.specs.Components.{further}
-use Rattle.data_set_typing.proofs.components.further.Given as goal
-
-abbrev pub invariant-loop-component : goal.invariant-loop-component
-invariant-loop-component l = further l.others l.components ≡ l.found ++ further l.others (drop l.component-index l.components)

@@ -1,7 +1,0 @@
-use Rattle.std.proofs.Common.{◌≡◌, drop}
-use Rattle.std.specs.Prelude.{find}
-use Rattle.data_set_trees.specs.Pairs.{is_called}
-use Rattle.data_set_typing.proofs.meetings.namesake.Given as goal
-
-abbrev pub invariant-loop-measure : goal.invariant-loop-measure
-invariant-loop-measure l = find (is_called l.name) l.measures ≡ find (is_called l.name) (drop l.measure-index l.measures)
