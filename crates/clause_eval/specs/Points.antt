@@ -56,10 +56,12 @@ picks_of (clause.Sub items) frame = numbers_from (λ number c. is_identifier c &
 picks_of (clause.Unpivot identifier measure) frame = numbers_of Viral frame.components
 picks_of (clause.Measures items) frame = numbers_of Viral frame.components
 
--- ---- a key at which there may be a point
+-- ---- keys at which the operand may have a point
 
+-- the clause is out of range there
 abbrev pub is_beyond_at : CheckedClause → List Value → Option (List Value) → Bool
 is_beyond_at c key point = option_map_or (is_beyond_on c key) point false
 
+-- what the result has of it at one of the keys at which it counts
 abbrev pub values_at_key : CheckedClause → Frame → List Value → Option (List Value) → List Value → Option (List Value)
 values_at_key c frame key point to = option_and_then (λ rest. values_from c frame key rest to) point

@@ -11,6 +11,7 @@ use vtl_values::{Decimal, Integer, Value};
 /// How many millionths one is.
 const ONE: i128 = 1_000_000;
 
+/// An integer as a number.
 fn number_of(integer: Integer) -> Decimal
     ensures { result ≡ integer *ℤ pos 1000000 }
 {

@@ -4,7 +4,7 @@
 //! `held_index`. The changes of the operand carry the old point and the new one, and a clause works each point out by
 //! itself, so the rule holds nothing and looks nothing up: for each change it notes what the result had and has at the
 //! keys at which the point counts. `ClauseRule` is a `DeltaRule`: its answer is the right delta or the right fault,
-//! whichever data set its operand is.
+//! whichever data set its operand is. Threads may share a rule (`proofs/Shared.antt`).
 #![tactic(auto)]
 
 pub mod laws;
