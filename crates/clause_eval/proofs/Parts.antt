@@ -29,9 +29,9 @@ use Rattle.clause_eval.specs.Points.{keys_from, is_beyond_at, values_from, value
 
 -- ---- ranges
 
-never_beyond : {A : Type 0} (o : Option A) → false ≡ option_map_or (λ x. false) o false
-never_beyond None = refl
-never_beyond (Some x) = refl
+pub never-beyond : {A : Type 0} (o : Option A) → option_map_or (λ x. false) o false ≡ false
+never-beyond None = refl
+never-beyond (Some x) = refl
 
 pub beyond-at : (c : CheckedClause) (frame : Frame) (a : DataSet) (key : List Value) → (working_of c frame a).beyond key ≡ is_beyond_at c key (get a key)
 beyond-at (clause.Filter condition) frame a key = refl
@@ -39,8 +39,8 @@ beyond-at (clause.Calc items) frame a key = refl
 beyond-at (clause.Keep numbers) frame a key = refl
 beyond-at (clause.Drop numbers) frame a key = refl
 beyond-at (clause.Rename renames) frame a key = refl
-beyond-at (clause.Sub items) frame a key = never_beyond (get a key)
-beyond-at (clause.Unpivot identifier measure) frame a key = never_beyond (get a key)
+beyond-at (clause.Sub items) frame a key = sym (never-beyond (get a key))
+beyond-at (clause.Unpivot identifier measure) frame a key = sym (never-beyond (get a key))
 beyond-at (clause.Measures items) frame a key = refl
 
 -- ---- keys
@@ -80,9 +80,9 @@ in_place gives a key to h = ap (λ (k : List Value). option_and_then (gives k) (
 
 -- ---- of `sub`
 
-some-itself : {A : Type 0} (o : Option A) → o ≡ option_and_then (λ x. Some x) o
-some-itself None = refl
-some-itself (Some x) = refl
+pub itself : {A : Type 0} (o : Option A) → option_and_then (λ x. Some x) o ≡ o
+itself None = refl
+itself (Some x) = refl
 
 -- what is found is listed
 found-listed : (p : List Value → Bool) (ks : List (List Value)) (k : List Value) → find p ks ≡ Some k → is_listed key_cmp ks k ≡ true
@@ -129,7 +129,7 @@ module _ (items : List CheckedSubItem) (frame : Frame) (first : HasIdentifiersFi
 
   sub-at : (to : List Value) → is_listed key_cmp (if has_values items key then key_left items frame key ∷ [] else []) to ≡ true → option_and_then (get a) (find (comes_to items frame to) (keys a)) ≡ option_and_then (λ (rest : List Value). Some rest) (get a key)
   sub-at to listed = elim (cases_Bool (has_values items key)) [
-    | inl has ↦ sub-value to has (one_listed (key_left items frame key) to (rw has at listed)) ∙ some-itself (get a key)
+    | inl has ↦ sub-value to has (one_listed (key_left items frame key) to (rw has at listed)) ∙ sym (itself (get a key))
     | inr has_not ↦ cc (rw has_not at listed)
   ]
 

@@ -20,7 +20,7 @@ find-unlisted S p f l (k ∷ ks) h = elim (p k) as (λ b. is_listed S (map f (co
   | false ↦ λ i. find-unlisted S p f l ks i
 ] h
 
-either-right : (a b : Bool) → b ≡ true → (a || b) ≡ true
+pub either-right : (a b : Bool) → b ≡ true → (a || b) ≡ true
 either-right true b h = refl
 either-right false b h = h
 

@@ -1,5 +1,5 @@
 -- The delta of a clause's result, from the changes of its operand.
-use Rattle.std.proofs.Common.{◌≡◌, ◌≢◌, ℕ, ◌+◌, ◌<◌, ◌≤◌, List, [], ◌∷◌, ◌++◌, map, take, length, get_or, Option, Some, None, Result, Bool, true, false, if◌then◌else◌, ◌||◌, sym, ◌∙◌, ap, refl, subst, arith, inl, inr, append_assoc}
+use Rattle.std.proofs.Common.{◌≡◌, ◌≢◌, ℕ, ◌+◌, ◌<◌, ◌≤◌, List, [], ◌∷◌, ◌++◌, map, take, length, get_or, Option, Some, None, Result, Bool, true, false, if◌then◌else◌, sym, ◌∙◌, ap, refl, subst, arith, inl, inr, append_assoc}
 use Rattle.std.specs.Prelude.{flat_map}
 use Rattle.std.specs.Option.{IfSome, is_some}
 use Rattle.std.specs.List.{AllZip}
@@ -35,7 +35,7 @@ use Rattle.clause_meaning.specs.Clauses.{working_of, clause_meaning}
 use Rattle.clause_meaning.specs.Ordered.{HasIdentifiersFirst}
 use Rattle.clause_meaning.specs.Workings.{Working}
 use Rattle.clause_meaning.proofs.Covered.{covered}
-use Rattle.clause_meaning.proofs.Lists.{listed-flat_map}
+use Rattle.clause_meaning.proofs.Lists.{either-right, listed-flat_map}
 use Rattle.clause_eval.specs.Points.{keys_from, is_beyond_at, values_at_key}
 use Rattle.clause_eval.proofs.Parts.{beyond-at, keys-are, value-at}
 use Rattle.held_index.specs.Drafts.{SetDraft}
@@ -47,10 +47,6 @@ use Rattle.clause_ops.specs.Noted.{noted_at, noted_change, IsNoted}
 use Rattle.clause_ops.specs.Rules.{ClauseOn, IsOperand, meaning_of}
 
 -- ---- lists of keys
-
-either-right : (a b : Bool) → b ≡ true → (a || b) ≡ true
-either-right true b h = refl
-either-right false b h = h
 
 -- a key that stands among those that some keys make is made by one of them
 made-by : (f : List Value → List (List Value)) (ks : List (List Value)) (to : List Value) → is_listed key_cmp (flat_map f ks) to ≡ true → (key : List Value) × (is_listed key_cmp ks key ≡ true) × (is_listed key_cmp (f key) to ≡ true)

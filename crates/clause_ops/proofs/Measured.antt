@@ -1,7 +1,6 @@
 -- What is noted of a clause, one by one.
-use Rattle.std.proofs.Common.{◌≡◌, ℕ, ◌+◌, ◌<◌, List, ◌∷◌, ◌++◌, map, drop, length, get_or, Bool, true, false, cond, if◌then◌else◌, Option, Some, None, refl, ap, sym, ◌∙◌}
+use Rattle.std.proofs.Common.{◌≡◌, ℕ, ◌+◌, ◌<◌, List, ◌∷◌, ◌++◌, map, drop, length, get_or, Bool, true, false, cond, if◌then◌else◌, Option, None, refl, ap, sym, ◌∙◌}
 use Rattle.std.specs.Prelude.{option_and_then}
-use Rattle.std.specs.Option.{option_map_or}
 use Rattle.std.specs.List.{last_or}
 use Rattle.std.proofs.lemmas.List.{drop_more}
 use Rattle.vtl_values.specs.declared.kind.Role.TheVariants.{Measure}
@@ -19,6 +18,7 @@ use Rattle.clause_trees.specs.Frames.{has_role}
 use Rattle.clause_meaning.specs.Clauses.{has_values, key_left, key_with_name, measures, measure_point}
 use Rattle.clause_meaning.proofs.Lists.{last-pushed}
 use Rattle.clause_eval.specs.Points.{keeps_keys, is_beyond_at, values_at_key}
+use Rattle.clause_eval.proofs.Parts.{itself, never-beyond}
 use Rattle.held_index.specs.Drafts.{SetDraft}
 use Rattle.clause_ops.specs.Noted.{noted_at, noted_change, measure_value_at}
 
@@ -37,14 +37,6 @@ noted-in-place (clause.Unpivot identifier measure) frame change n h = cc
 noted-in-place (clause.Measures items) frame change n h = refl
 
 -- ---- `sub`
-
-never-beyond : {A : Type 0} (o : Option A) → option_map_or (λ x. false) o false ≡ false
-never-beyond None = refl
-never-beyond (Some x) = refl
-
-itself : {A : Type 0} (o : Option A) → option_and_then (λ x. Some x) o ≡ o
-itself None = refl
-itself (Some x) = refl
 
 module _ (items : List CheckedSubItem) (frame : Frame) (change : Change) (n : SetDraft) where
   -- nothing is noted where the values are others
