@@ -9,11 +9,17 @@
 //! is exactly the first fault that it says, at its place, or want of memory.
 #![tactic(auto)]
 
+mod agreement;
 mod applying;
+mod branches;
+mod chosen;
 mod collections;
+mod conditionals;
 mod existence;
 mod membership;
+mod results;
 
 pub use collections::sets;
+pub use conditionals::choice;
 pub use existence::exists;
 pub use membership::member;
