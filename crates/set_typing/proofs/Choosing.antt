@@ -1,7 +1,6 @@
 -- A conditional on data sets is what it comes to, carried out.
 use Rattle.std.proofs.Common.{◌≡◌, refl, ◌&&◌, ◌++◌, List, [], ◌∷◌, map, length, Ok, ap, sym, ◌∙◌}
 use Rattle.std.specs.Prelude.{nat_eq}
-use Rattle.std.specs.List.{list_all}
 use Rattle.std.proofs.lemmas.List.Folds.{list_all-map}
 use Rattle.vtl_values.specs.declared.place.Place.{Place}
 use Rattle.vtl_values.specs.declared.structure.Component.{Component}
