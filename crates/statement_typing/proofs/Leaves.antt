@@ -1,0 +1,91 @@
+-- What a clause leaves of a data set's structure is a structure.
+use Rattle.std.proofs.Common.{◌≡◌, List, [], ◌∷◌, map, Result, Ok, Err, sym, ap, subst, ◌∙◌}
+use Rattle.std.proofs.lemmas.List.Elements.{All-nil, All-cons}
+use Rattle.std.specs.List.{All}
+use Rattle.vtl_values.specs.declared.kind.Kind.TheVariants.{Truth}
+use Rattle.vtl_values.specs.declared.place.Place.{Place}
+use Rattle.vtl_values.specs.declared.structure.Component.{Component}
+use Rattle.vtl_values.specs.Structures.{IsStructure}
+use Rattle.vtl_syntax.specs.declared.expr.Clause.{Clause, out-Clause}
+use Rattle.vtl_syntax.specs.declared.expr.Clause.TheOpen.{Clause-F}
+use Rattle.vtl_syntax.specs.declared.expr.Comp.{Comp}
+use Rattle.vtl_syntax.specs.declared.expr.Expr.{Expr}
+use Rattle.vtl_syntax.specs.declared.expr.Groups.{Groups}
+use Rattle.vtl_syntax.specs.declared.expr.Item.{Item, out-Item}
+use Rattle.vtl_syntax.specs.declared.expr.JoinOperand.{JoinOperand}
+use Rattle.vtl_syntax.specs.declared.expr.SubItem.{SubItem}
+use Rattle.vtl_syntax.specs.declared.expr.SubstrRange.{SubstrRange}
+use Rattle.typing_rules.specs.declared.scope.Basis.TheVariants.{Point}
+use Rattle.typing_rules.specs.declared.stop.Fault.TheVariants.{UnknownComponent, WrongType, WrongRole, BadConstant}
+use Rattle.typing_rules.specs.declared.stop.Refusal.{Refusal}
+use Rattle.typing_rules.specs.Scalars.{typed, wanted}
+use Rattle.typing_rules.specs.Steps.{◌>>=◌}
+use Rattle.clause_trees.specs.declared.clause.CheckedClause.{CheckedClause}
+use Rattle.clause_trees.specs.declared.clause.CheckedClause.TheVariants as clause
+use Rattle.clause_trees.specs.declared.clause.CheckedItem.{CheckedItem}
+use Rattle.clause_trees.specs.declared.frame.Frame.{Frame}
+use Rattle.clause_trees.specs.Frames.{frame_of, scope_of_frame}
+use Rattle.clause_trees.specs.After.{after, is_kept, is_left}
+use Rattle.clause_trees.specs.Clauses.{IsItemOf, filter_typed, item_typed, calc_typed, keep_typed, drop_typed, sub_typed, demands, are_known, may_keep, may_drop, numbers_named, are_known_items, subs_checked, are_comparable, are_identifiers, are_present}
+use Rattle.clause_trees.proofs.Made.{met, calc_gives, rename_gives, unpivot_gives}
+use Rattle.clause_trees.proofs.Parts.{leaves_structures}
+use Rattle.data_set_trees.specs.OnClauses.{item_checked, items_checked, clause_step, clause_checked}
+use Rattle.data_set_parts.specs.Results.{structure_after}
+use Rattle.data_set_parts.proofs.Fits.{unlisted_is}
+use Rattle.data_set_parts.proofs.Follows.{gave}
+
+-- what was made of what a step gave
+made_of : {A B : Type 0} (m : Result A Refusal) (make : A → B) (b : B) → (m >>= (λ a. Ok (make a))) ≡ Ok b → (a : A) × (make a ≡ b)
+made_of (Ok a) make b is = let same : make a ≡ b = cc in (a, same)
+made_of (Err refusal) make b is = cc
+
+module _ (frame : Frame) where
+  item_is : (item : Item) (c : CheckedItem) → item_checked frame item ≡ Ok c → IsItemOf frame c
+  item_is item c is =
+      let value = made_of (typed (scope_of_frame frame) Point (out-Item item).expr) (item_typed frame (out-Item item).role (out-Item item).name) c is in
+      record { stated = (out-Item item).role; name = (out-Item item).name; value = value.0; is = sym value.1 }
+
+  items_are : (items : List Item) (cs : List CheckedItem) → items_checked frame items ≡ Ok cs → All (IsItemOf frame) cs
+  items_are [] cs is = let none : [] ≡ cs = cc in subst (All (IsItemOf frame)) none (All-nil (IsItemOf frame))
+  items_are (item ∷ items) cs is =
+      let first = gave (item_checked frame item) (λ c. items_checked frame items >>= (λ others. Ok (c ∷ others))) cs is in
+      let others = gave (items_checked frame items) (λ others. Ok (first.0 ∷ others)) cs first.2 in
+      subst (All (IsItemOf frame)) (same_list first.0 others.0 cs others.2) (All-cons (IsItemOf frame) first.0 others.0 (item_is item first.0 first.1) (items_are items others.0 others.1))
+    where
+      same_list : (c : CheckedItem) (others cs : List CheckedItem) → (Ok others >>= (λ others. Ok (c ∷ others))) ≡ Ok cs → (c ∷ others) ≡ cs
+      same_list c others cs h = cc
+
+module _ (s : List Component) (is : IsStructure s) where
+  abbrev IsLeft : CheckedClause → Type 0
+  IsLeft c = IsStructure (after c (frame_of s)).components
+
+  leaves : (x : Clause-F Clause Expr Groups Item JoinOperand SubstrRange) (c : CheckedClause) → clause_step x (frame_of s) ≡ Ok c → IsLeft c
+  leaves (Clause-F.Filter condition place) c h =
+      let value = gave (typed (scope_of_frame (frame_of s)) Point condition) (filter_typed place) c h in
+      let made = made_of (wanted place Truth value.0) (λ t. clause.Filter t) c value.2 in
+      subst IsLeft made.1 is
+  leaves (Clause-F.Calc items place) c h =
+      let all = gave (items_checked (frame_of s) items) (λ checked. calc_typed place checked (frame_of s)) c h in
+      calc_gives place all.0 s c is (items_are (frame_of s) items all.0 all.1) all.2
+  leaves (Clause-F.Keep names place) c h =
+      let frame = frame_of s in
+      let numbers = numbers_named frame names in
+      let given = met place ((are_known frame names, UnknownComponent) ∷ (may_keep frame numbers, WrongRole) ∷ []) (clause.Keep numbers) c h in
+      subst IsLeft given.1 (leaves_structures (is_kept numbers) frame is)
+  leaves (Clause-F.Drop names place) c h =
+      let frame = frame_of s in
+      let numbers = numbers_named frame names in
+      let given = met place ((are_known frame names, UnknownComponent) ∷ (may_drop frame numbers, WrongRole) ∷ []) (clause.Drop numbers) c h in
+      subst IsLeft given.1 (leaves_structures (is_left numbers) frame is)
+  leaves (Clause-F.Rename renames place) c h = rename_gives place renames s c is h
+  leaves (Clause-F.Sub items place) c h =
+      let frame = frame_of s in
+      let subs = subs_checked frame items in
+      let given = met place ((are_known_items frame items, UnknownComponent) ∷ (are_comparable frame subs, WrongType) ∷ (are_identifiers frame subs, WrongRole) ∷ (are_present subs, BadConstant) ∷ []) (clause.Sub subs) c h in
+      subst IsLeft given.1 (leaves_structures (is_left (map (λ i. i.component) subs)) frame is)
+  leaves (Clause-F.Unpivot identifier measure place) c h = unpivot_gives place identifier measure s c is h
+  leaves (Clause-F.Aggr items groups place) c h = cc
+
+  pub leaves_structure : (clause : Clause) (frame : Frame) (c : CheckedClause) → frame ≡ frame_of s → clause_checked clause frame ≡ Ok c → IsStructure (structure_after c s)
+  leaves_structure clause frame c same checked =
+      unlisted_is (after c (frame_of s)).components (leaves (out-Clause clause) c (ap (clause_checked clause) (sym same) ∙ checked))

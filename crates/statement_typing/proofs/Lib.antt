@@ -1,0 +1,5 @@
+mod Leaves
+mod Levels
+mod Operands
+mod Steps
+mod Walks

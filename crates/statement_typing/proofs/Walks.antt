@@ -1,0 +1,17 @@
+-- Walks over operands, and over the items of a clause.
+use Rattle.std.proofs.Common.{◌≡◌, List, [], ◌∷◌, map, Ok, refl}
+use Rattle.vtl_syntax.specs.declared.expr.Expr.{Expr}
+use Rattle.vtl_syntax.specs.declared.expr.Item.{Item}
+use Rattle.typing_rules.specs.Steps.{◌>>=◌}
+use Rattle.clause_trees.specs.declared.frame.Frame.{Frame}
+use Rattle.data_set_trees.specs.Expressions.{Naming, typing, all_typed, typed}
+use Rattle.data_set_trees.specs.OnClauses.{item_checked, items_checked}
+use Rattle.data_set_parts.specs.Walks.{each}
+
+pub operands_each : (naming : Naming) (trees : List Expr) → each (typed naming) trees ≡ all_typed (map typing trees) naming
+operands_each naming [] = refl
+operands_each naming (tree ∷ trees) = λ i. typed naming tree >>= (λ o. operands_each naming trees i >>= (λ os. Ok (o ∷ os)))
+
+pub items_each : (frame : Frame) (items : List Item) → each (item_checked frame) items ≡ items_checked frame items
+items_each frame [] = refl
+items_each frame (item ∷ items) = λ i. item_checked frame item >>= (λ c. items_each frame items i >>= (λ cs. Ok (c ∷ cs)))

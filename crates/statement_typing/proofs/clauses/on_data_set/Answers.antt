@@ -1,0 +1,13 @@
+use Rattle.std.proofs.Common.{◌≡◌, sym, ap, subst, ◌∙◌}
+use Rattle.vtl_values.specs.Structures.{IsStructure}
+use Rattle.clause_trees.specs.Frames.{frame_of}
+use Rattle.data_set_trees.specs.declared.operand.DataSet.{DataSet}
+use Rattle.statement_typing.proofs.Leaves.{leaves_structure}
+use Rattle.statement_typing.proofs.clauses.on_data_set.Goals as goal
+
+pub with_clause-requires : goal.with_clause-requires
+with_clause-requires c =
+    let s = c.into_inner.result.structure in
+    let read : c.get.result.now.structure ≡ s = ap (λ (d : DataSet). d.structure) (c.get.ensures ∙ sym c.into_inner.ensures) in
+    leaves_structure s (subst IsStructure read c.components.ensures.structure) c.args.clause.now c.in_ok-frame.frame c.in_ok-checked.checked
+    (c.in_ok-frame.ensures ∙ ap frame_of (c.components.ensures.value ∙ read)) c.in_ok-checked.ensures.ok

@@ -1,0 +1,10 @@
+use Rattle.std.proofs.Common.{◌≡◌, drop}
+use Rattle.data_set_trees.specs.OnClauses.{item_checked}
+use Rattle.data_set_parts.specs.Walks.{each}
+use Rattle.data_set_parts.proofs.Binds.{left_after}
+use Rattle.statement_typing.proofs.items.items_checked.Given as goal
+
+abbrev pub invariant-loop-item : goal.invariant-loop-item
+invariant-loop-item l =
+    let h = item_checked l.frame in
+    each h l.items ≡ left_after h l.checked (drop l.item-index l.items)

@@ -1,0 +1,195 @@
+// One level of an expression.
+ghost use Rattle.std.specs.Prelude.{Ok};
+ghost use Rattle.typing_rules.specs.declared.stop.Fault.TheVariants.{WrongStructure};
+ghost use Rattle.typing_rules.specs.Scalars.{literal_typed};
+ghost use Rattle.typing_rules.specs.Steps.{refused};
+ghost use Rattle.data_set_trees.specs.declared.operand.Operand.{Operand};
+ghost use Rattle.data_set_trees.specs.declared.operand.Operand.TheVariants as operands;
+ghost use Rattle.data_set_trees.specs.Expressions as meant;
+ghost use Rattle.statement_typing.specs.Names.{naming_of};
+ghost use Rattle.statement_typing.specs.Parts.{Answers, TypesParts};
+
+use crate::checker::Checker;
+use crate::names::Names;
+use crate::tables::{difference_of, form_of_function, operation_of};
+use data_set_trees::Operand;
+use operator_typing::{
+    comparison_operator, literal_typed, or_operator, prefix_operator, product_operator,
+    sum_operator, unary_operator,
+};
+use scalar_trees::BinaryOperator;
+use std::alloc::Global;
+use typing_rules::{Fault, TypeStop};
+use vtl_syntax::Expr;
+use vtl_values::{Place, Value, Word};
+
+/// A literal.
+fn literal(value: &Value) -> Result<Operand, TypeStop>
+    ensures { Answers (Ok (operands.Scalar (literal_typed value.now))) result }
+{
+    Ok(Operand::Scalar(literal_typed(value)?))
+}
+
+/// A name, which stands for a data set.
+fn name(names: &Names<'_>, name: &Word, place: Place) -> Result<Operand, TypeStop>
+    ensures { Answers (meant.named_typed (naming_of names.now name.now) place) result }
+{
+    match names.data_set(name)? {
+        Some(set) => Ok(Operand::DataSet(set)),
+        None => Err(TypeStop::at(Fault::UnknownComponent, place)),
+    }
+}
+
+/// What isn't built yet.
+fn unbuilt(place: Place) -> Result<Operand, TypeStop>
+    ensures { Answers {A = Operand} (refused WrongStructure place) result }
+{
+    Err(TypeStop::at(Fault::WrongStructure, place))
+}
+
+impl<F: Fn(Global, &Names<'_>, &Expr) -> Result<Operand, TypeStop> + Copy> Checker<'_, '_, F> {
+    /// The expression: one row a form, which names the function that types it.
+    pub(crate) fn level(&self) -> Result<Operand, TypeStop>
+        requires types { TypesParts self.now.tree.now self.now.names (F.pre self.now.expression self.now.alloc) (F.post self.now.expression self.now.alloc) }
+        ensures { Answers (meant.typed (naming_of self.now.names.now) self.now.tree.now) result }
+    {
+        match self.tree {
+            Expr::Literal { value, .. } => literal(value),
+            Expr::Name { name: word, place } => name(self.names, word, *place),
+            Expr::Bracket { inner, .. } => self.part(inner),
+            Expr::Signed {
+                sign,
+                operand,
+                place,
+            } => self.unary(prefix_operator(*sign), operand, *place),
+            Expr::Unary {
+                function,
+                operand,
+                place,
+            } => self.unary(unary_operator(*function), operand, *place),
+            Expr::Or {
+                left,
+                sign,
+                right,
+                place,
+            } => self.binary(or_operator(*sign), left, right, *place),
+            Expr::And { left, right, place } => {
+                self.binary(BinaryOperator::And, left, right, *place)
+            }
+            Expr::Compare {
+                left,
+                sign,
+                right,
+                place,
+            } => self.binary(comparison_operator(*sign), left, right, *place),
+            Expr::Sum {
+                left,
+                sign,
+                right,
+                place,
+            } => self.binary(sum_operator(*sign), left, right, *place),
+            Expr::Product {
+                left,
+                sign,
+                right,
+                place,
+            } => self.binary(product_operator(*sign), left, right, *place),
+            Expr::Binary {
+                function,
+                left,
+                right,
+                place,
+            } => self.on_two(&form_of_function(*function), left, right, *place),
+            Expr::In {
+                left,
+                sign,
+                set,
+                place,
+            } => self.in_set(left, *sign, set.as_slice(), *place),
+            Expr::Between {
+                operand,
+                low,
+                high,
+                place,
+            } => self.between(operand, low, high, *place),
+            Expr::Round {
+                function,
+                operand,
+                digits,
+                place,
+            } => self.round(*function, operand, *digits, *place),
+            Expr::MatchCharacters {
+                operand,
+                pattern,
+                place,
+            } => self.matched(operand, pattern, *place),
+            Expr::Substr {
+                operand,
+                range,
+                place,
+            } => self.substr(operand, range, *place),
+            Expr::Replace {
+                operand,
+                pattern,
+                by,
+                place,
+            } => self.replaced(operand, pattern, by, *place),
+            Expr::If {
+                condition,
+                holds,
+                fails,
+                place,
+            } => self.chosen(condition, holds, fails, *place),
+            Expr::Typed { sort, expr, place } => self.of_sort(*sort, expr, *place),
+            Expr::Member {
+                operand,
+                name,
+                place,
+            } => self.member(operand, name, *place),
+            Expr::Clause {
+                operand,
+                clause,
+                ..
+            } => self.with_clause(operand, clause),
+            Expr::ExistsIn {
+                left,
+                right,
+                rows,
+                place,
+            } => self.exists_in(left, right, *rows, *place),
+            Expr::Sets {
+                function,
+                first,
+                second,
+                others,
+                place,
+            } => self.several_sets(
+                operation_of(*function),
+                first,
+                second,
+                others.as_slice(),
+                *place,
+            ),
+            Expr::Difference {
+                function,
+                left,
+                right,
+                place,
+            } => self.two_sets(difference_of(*function), left, right, *place),
+            Expr::Join { place, .. } => unbuilt(*place),
+            Expr::Aggregate { place, .. } => unbuilt(*place),
+            Expr::Window { place, .. } => unbuilt(*place),
+            Expr::CountAll { place } => unbuilt(*place),
+            Expr::Offset { place, .. } => unbuilt(*place),
+            Expr::Rank { place, .. } => unbuilt(*place),
+            Expr::CheckDatapoint { place, .. } => unbuilt(*place),
+            Expr::Hierarchy { place, .. } => unbuilt(*place),
+            Expr::CheckHierarchy { place, .. } => unbuilt(*place),
+            Expr::Check { place, .. } => unbuilt(*place),
+            Expr::Time { place, .. } => unbuilt(*place),
+            Expr::Timeshift { place, .. } => unbuilt(*place),
+            Expr::FillTimeSeries { place, .. } => unbuilt(*place),
+            Expr::CallOf { place, .. } => unbuilt(*place),
+        }
+    }
+}

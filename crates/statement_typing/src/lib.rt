@@ -1,0 +1,26 @@
+//! What an expression outside of clauses is checked to be, a data set or a scalar, or its first fault.
+//!
+//! It stands on `data_set_trees` for the trees and the definitions, on `data_set_typing` and `set_typing` for operators, and
+//! on `clause_typing` and `component_typing` for clauses and the expressions in them. `names` has what the names of data
+//! sets stand for. `checker` types one level of an expression, by `operators`, `data_sets` and `clauses`; `level` has one row
+//! for each form, and `expression` adds the walk over the tree.
+//!
+//! The contract of `check_expression` promises that an answer is exactly the operand that `data_set_trees` says
+//! (`specs/Expressions.antt`, `typed`), where names stand for what `specs/Names.antt` says, and that an error is exactly the
+//! first fault that it says, at its place, or want of memory.
+#![tactic(auto)]
+
+mod checker;
+mod clauses;
+mod data_sets;
+mod expression;
+mod forms;
+mod items;
+mod level;
+mod names;
+mod operators;
+mod sorts;
+mod tables;
+
+pub use expression::check_expression;
+pub use names::{Names, StatementResult};
