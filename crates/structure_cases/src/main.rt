@@ -25,7 +25,8 @@ fn main(rt: HostRuntime) -> Result<()> {
     let Ok(structures) = read_structures(rt.alloc(), bytes.as_slice()) else {
         bail!("no structures");
     };
-    answer_files(&rt, &|alloc: Global, text: &str, _: &[Json]| {
-        expressions::answer(alloc, &structures, text)
-    })
+    answer_files(
+        &rt,
+        &|alloc: Global, text: &str, _: &[Json]| { expressions::answer(alloc, &structures, text) },
+    )
 }
