@@ -1,5 +1,6 @@
 pub mod Answering
 pub mod Orders
+pub mod OneOrder
 pub mod RepeatLemmas
 pub mod Naming
 pub mod Whole

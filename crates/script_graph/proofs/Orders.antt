@@ -129,7 +129,7 @@ at_of (x ∷ xs) i h = elim (tells (x == i)) [
   | inr other ↦ at_later x xs i (at_of xs i (ap (λ b. b || contains xs i) (sym other) ∙ h))
 ]
 
-not_before : (front : List ℕ) (i : ℕ) (back : List ℕ) → AllPairs (λ j k. j ≢ k) (front ++ i ∷ back) → Contains front i → ⊥
+pub not_before : (front : List ℕ) (i : ℕ) (back : List ℕ) → AllPairs (λ j k. j ≢ k) (front ++ i ∷ back) → Contains front i → ⊥
 not_before front i back once c =
     let less : c.0 < length front = c.1 in
     let within : length front < length (front ++ i ∷ back) = omega (arith, length-append front (i ∷ back)) in
@@ -142,7 +142,7 @@ on_none g order o i h ks way =
     not_before a.front i a.back (subst (AllPairs (λ j k. j ≢ k)) a.is o.once) (ways_stay g a.front b.closed i ks i b.ready way)
 
 -- each number is in the order
-order_has : (g : Graph) (order : List ℕ) → IsOrder g order → (i : ℕ) → i < length g → contains order i ≡ true
+pub order_has : (g : Graph) (order : List ℕ) → IsOrder g order → (i : ℕ) → i < length g → contains order i ≡ true
 order_has g order o i less = elim (tells (contains order i)) [
   | inl has ↦ has
   | inr lacks ↦
@@ -198,7 +198,7 @@ waits_none : (marks : List Bool) (order : List ℕ) → ((k : ℕ) → mark_at m
 waits_none marks order same ts ready =
     list_any_none (λ (k : ℕ). not (mark_at marks k)) ts (λ k d less. let t = get_or ts k d in ap not (same t ∙ Contains-has order t (ready k d less)))
 
-can-come : (g : Graph) (marks : List Bool) (order : List ℕ) → Marks g marks order → (j : ℕ) → CanCome g order j → can_come g marks j ≡ true
+pub can-come : (g : Graph) (marks : List Bool) (order : List ℕ) → Marks g marks order → (j : ℕ) → CanCome g order j → can_come g marks j ≡ true
 can-come g marks order m j can =
     both-and (mark_at marks j) (waits g marks j)
     (elim (tells (contains order j)) [ inl has ↦ absurd (can.new (has-Contains order j has)) | inr lacks ↦ m.same j ∙ lacks ])

@@ -1,5 +1,5 @@
 -- The order in which statements come, of a graph that has for each statement those that it uses.
-use Rattle.std.specs.Prelude.{◌≡◌, ◌≢◌, ◌<◌, ◌≤◌, ℕ, List, [], ◌∷◌, ◌++◌, Bool, not, ◌&&◌, Option, length, find, Contains, AllPairs, ⊤}
+use Rattle.std.specs.Prelude.{◌≡◌, ◌≢◌, ◌<◌, ◌≤◌, ℕ, zero, suc, List, [], ◌∷◌, ◌++◌, Bool, true, false, not, ◌&&◌, Option, Some, None, length, find, set, replicate, Contains, AllPairs, ⊤}
 use Rattle.std.specs.List.{All, list_any}
 use Rattle.shortest_cycles.specs.Paths.{Graph, LeadsTo, targets_of}
 use Rattle.shortest_cycles.specs.Cycles.{count_from}
@@ -45,3 +45,17 @@ can_come g marks i = not (mark_at marks i) && not (waits g marks i)
 -- the first that can come
 abbrev pub next_of : Graph → List Bool → Option ℕ
 next_of g marks = find (can_come g marks) (count_from 0 (length g))
+
+-- what comes from here on, if one can come
+abbrev pub from_next : (ℕ → List ℕ) → Option ℕ → List ℕ
+from_next rest None = []
+from_next rest (Some i) = i ∷ rest i
+
+-- where these have come, so many come after them, as long as one can
+abbrev pub order_after : Graph → List Bool → ℕ → List ℕ
+order_after g marks zero = []
+order_after g marks (suc n) = from_next (λ i. order_after g (set marks i true) n) (next_of g marks)
+
+-- the order, where there is one: at each step the first that can come does
+abbrev pub order_of : Graph → List ℕ
+order_of g = order_after g (replicate (length g) false) (length g)

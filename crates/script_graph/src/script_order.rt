@@ -2,7 +2,7 @@
 ghost use Rattle.std.specs.Prelude.{◌≡◌, None, IfOk, IfErr};
 ghost use Rattle.script_graph.specs.Scopes.{Answers, names_of};
 ghost use Rattle.script_graph.specs.ScopeViews.{names_in};
-ghost use Rattle.script_graph.specs.Orders.{IsOrder};
+ghost use Rattle.script_graph.specs.Orders.{IsOrder, order_of};
 ghost use Rattle.script_graph.specs.Faults as meant;
 
 use crate::both::both;
@@ -44,9 +44,18 @@ fn graph_of(alloc: Global, script: &Script, scope: &Scope) -> Result<Graph, Grap
     Ok(graph)
 }
 
+/// An order of a script's statements, as their numbers from 0, and for each statement those whose results it uses, in the
+/// order in which it mentions them.
+#[derive(Drop)]
+pub struct ScriptOrder {
+    pub order: Vec<u64>,
+    pub uses: Graph,
+}
+
 /// The order in which the script's statements are worked out, as their numbers: each stands after those whose results it
-/// uses, and of several that could come next the first in the script comes. The inputs are the data sets of the structures.
-/// Calls of defined operators are looked through, and their definitions aren't looked at.
+/// uses, and of several that could come next the first in the script comes. And for each statement those whose results it
+/// uses. The inputs are the data sets of the structures. Calls of defined operators are looked through, and their
+/// definitions aren't looked at.
 ///
 /// # Errors
 /// The first fault of the first kind of which there is one: a statement or a ruleset that repeats a name, a name that
@@ -57,15 +66,21 @@ fn graph_of(alloc: Global, script: &Script, scope: &Scope) -> Result<Graph, Grap
 /// Each name and each expression is looked at once, and no word is copied but into a fault. For the order, each statement
 /// takes a pass over those that haven't come yet, which looks at each up to its first use that hasn't come either. Only
 /// where there is a cycle, for each statement as many passes over the uses as there are statements.
-pub fn order(alloc: Global, script: &Script, structures: &Structures) -> Result<Vec<u64>, GraphStop>
-    ensures ok { IfOk result (λ order. IsOrder (meant.graph_of script.now structures.now) order.items) }
-    ensures faultless { IfOk result (λ order. meant.first_fault script.now structures.now ≡ None) }
+pub fn order(
+    alloc: Global,
+    script: &Script,
+    structures: &Structures,
+) -> Result<ScriptOrder, GraphStop>
+    ensures ok { IfOk result (λ o. IsOrder (meant.graph_of script.now structures.now) o.order.items) }
+    ensures value { IfOk result (λ o. o.order.items ≡ order_of (meant.graph_of script.now structures.now)) }
+    ensures uses { IfOk result (λ o. o.uses ≡ meant.graph_of script.now structures.now) }
+    ensures faultless { IfOk result (λ o. meant.first_fault script.now structures.now ≡ None) }
     ensures err { IfErr result (meant.IsStop script.now structures.now) }
 {
     let scope = scope_of(alloc, script, structures)?;
     let graph = graph_of(alloc, script, &scope)?;
     if let Some(order) = in_order(alloc, graph.as_slice())? {
-        return Ok(order);
+        return Ok(ScriptOrder { order, uses: graph });
     }
     match cycle_fault(alloc, script.statements.as_slice(), &graph)? {
         Some(fault) => Err(GraphStop::Fault(fault)),

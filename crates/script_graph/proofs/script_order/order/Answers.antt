@@ -8,6 +8,7 @@ use Rattle.shortest_cycles.specs.Cycles.{first_cycle}
 use Rattle.script_graph.specs.Scopes.{Names}
 use Rattle.script_graph.specs.Orders.{LeadsWithin, IsOrder}
 use Rattle.script_graph.specs.Faults.{graph_of, told, cycle, unknown}
+use Rattle.script_graph.proofs.OneOrder.{only}
 use Rattle.script_graph.proofs.Whole.{graph_within, cycle_is, order_cycle, faultless}
 use Rattle.script_graph.proofs.script_order.order.Goals as goal
 
@@ -40,3 +41,15 @@ unreachable-requires c =
     ap₂ (λ (ts : List Statement) (g : Graph). option_and_then (told ts) (first_cycle g)) (sym c.as_slice-2.ensures) (sym graph)
     ∙ sym (c.in_ok-fault.ensures {u = tt}) ∙ c.in-None.is in
     cycle_is s inputs acyclic none
+
+pub returns-in-Some-clause-uses : goal.returns-in-Some-clause-uses
+returns-in-Some-clause-uses c =
+    let s = c.args.script.now in
+    c.in_ok-graph.ensures.1 ∙ ap (λ (n : Names). graph_of s n.inputs) c.in_ok-scope.ensures.1
+
+pub returns-in-Some-clause-value : goal.returns-in-Some-clause-value
+returns-in-Some-clause-value c =
+    let s = c.args.script.now in
+    let is : c.as_slice.result.now ≡ graph_of s c.args.structures.now = c.as_slice.ensures ∙ c.in_ok-graph.ensures.1 ∙ ap (λ (n : Names). graph_of s n.inputs) c.in_ok-scope.ensures.1 in
+    let o = rw c.in-Some.is at c.in_ok-order.ensures.order in
+    only (graph_of s c.args.structures.now) c.in-Some.order.items (subst (λ (g : Graph). IsOrder g c.in-Some.order.items) is o)

@@ -1,0 +1,29 @@
+use Rattle.std.proofs.Common.{◌≡◌, Bool, ◌&&◌, List, sym, ap, ◌∙◌}
+use Rattle.std.specs.List.{list_all}
+use Rattle.vtl_syntax.specs.declared.expr.Expr.{Expr}
+use Rattle.vtl_syntax.specs.declared.expr.Clause.{Clause}
+use Rattle.vtl_syntax.specs.declared.expr.Item.{Item}
+use Rattle.typed_forms.specs.declared.stand.Stand.{Stand}
+use Rattle.typed_forms.specs.declared.stand.Stand.TheVariants.{Item as Whole}
+use Rattle.typed_forms.specs.Forms.{expr_typed, clause_typed, item_typed}
+use Rattle.typed_forms.proofs.Trees.{sets-typed, calc-typed}
+use Rattle.typed_forms.proofs.forms.+walk.Goals as goal
+
+pub clause_typed-returns-in-Calc : goal.clause_typed-returns-in-Calc
+clause_typed-returns-in-Calc t c =
+    c.items_typed.ensures
+    ∙ ap (λ (is : List Item). list_all (λ (i : Item). item_typed i Whole) is) c.as_slice.ensures
+    ∙ sym (calc-typed c.in-Calc.items c.in-Calc.place c.args.at)
+    ∙ ap (λ (d : Clause). clause_typed d c.args.at) (sym c.in-Calc.is)
+
+pub expr-returns-in-Sets : goal.expr-returns-in-Sets
+expr-returns-in-Sets t c =
+    let test : Expr → Expr → List Expr → Stand → Bool = λ a b cs at. expr_typed a at && (expr_typed b at && list_all (λ (x : Expr). expr_typed x at) cs) in
+    let part = c.of_part-in-Sets.result in
+    c.sets.ensures
+    ∙ ap (λ (a : Expr). test a c.get-in-Sets-2.result.now c.as_slice.result.now part) c.get-in-Sets.ensures
+    ∙ ap (λ (b : Expr). test c.in-Sets.first b c.as_slice.result.now part) c.get-in-Sets-2.ensures
+    ∙ ap (λ (cs : List Expr). test c.in-Sets.first c.in-Sets.second cs part) c.as_slice.ensures
+    ∙ ap (test c.in-Sets.first c.in-Sets.second c.in-Sets.others) c.of_part-in-Sets.ensures
+    ∙ sym (sets-typed c.in-Sets.function c.in-Sets.first c.in-Sets.second c.in-Sets.others c.in-Sets.place c.args.at)
+    ∙ ap (λ (d : Expr). expr_typed d c.args.at) (sym c.in-Sets.is)

@@ -1,0 +1,218 @@
+// Whether all forms in a script are typed.
+ghost use Rattle.std.specs.Prelude.{◌≡◌, ◌&&◌};
+ghost use Rattle.std.specs.List.{list_all};
+ghost use Rattle.typed_forms.specs.Forms as meant;
+ghost use Rattle.typed_forms.specs.declared.stand.Stand.TheVariants as Stand;
+
+use crate::stand::Stand;
+use sqlite_items::Boxed;
+use vtl_syntax::{Clause, Expr, Item, Script, Statement, SubstrRange};
+
+/// Whether all forms in an expression are typed, where it stands there.
+#[cycle(walk)]
+fn expr(tree: &Expr, at: Stand) -> bool
+    ensures { result ≡ meant.expr_typed tree.now at }
+{
+    match tree {
+        Expr::If {
+            condition,
+            holds,
+            fails,
+            ..
+        } => three(condition.get(), holds.get(), fails.get(), at.of_part()),
+        Expr::Or { left, right, .. } => two(left.get(), right.get(), at.of_part()),
+        Expr::And { left, right, .. } => two(left.get(), right.get(), at.of_part()),
+        Expr::Compare { left, right, .. } => two(left.get(), right.get(), at.of_part()),
+        Expr::In { left, .. } => expr(left.get(), at.of_part()),
+        Expr::Sum { left, right, .. } => two(left.get(), right.get(), at.of_part()),
+        Expr::Product { left, right, .. } => two(left.get(), right.get(), at.of_part()),
+        Expr::Signed { operand, .. } => expr(operand.get(), at.of_part()),
+        Expr::Member { operand, .. } => expr(operand.get(), at.of_part()),
+        Expr::Clause {
+            operand,
+            clause,
+            ..
+        } => with_clause(operand.get(), clause.get(), at.of_part()),
+        Expr::Literal { .. } => true,
+        Expr::Name { .. } => true,
+        Expr::Bracket { inner, .. } => expr(inner.get(), at.of_part()),
+        Expr::Unary { operand, .. } => expr(operand.get(), at.of_part()),
+        Expr::Round { operand, .. } => expr(operand.get(), at.of_part()),
+        Expr::Binary { left, right, .. } => two(left.get(), right.get(), at.of_part()),
+        Expr::Between { operand, .. } => expr(operand.get(), at.of_part()),
+        Expr::MatchCharacters { operand, .. } => expr(operand.get(), at.of_part()),
+        Expr::Substr { operand, range, .. } => with_range(operand.get(), range, at.of_part()),
+        Expr::Replace {
+            operand,
+            pattern,
+            by,
+            ..
+        } => replace(operand.get(), pattern.get(), by, at.of_part()),
+        Expr::ExistsIn { left, right, .. } => two(left.get(), right.get(), at.of_part()),
+        Expr::Sets {
+            first,
+            second,
+            others,
+            ..
+        } => sets(first.get(), second.get(), others.as_slice(), at.of_part()),
+        Expr::Difference { left, right, .. } => two(left.get(), right.get(), at.of_part()),
+        Expr::Join { .. } => at.is_in_clause(),
+        Expr::Aggregate { .. } => at.is_in_clause(),
+        Expr::Window { .. } => at.is_inside(),
+        Expr::CountAll { .. } => at.is_in_clause(),
+        Expr::Offset { .. } => at.is_inside(),
+        Expr::Rank { .. } => at.is_inside(),
+        Expr::CheckDatapoint { .. } => at.is_in_clause(),
+        Expr::Hierarchy { .. } => at.is_in_clause(),
+        Expr::CheckHierarchy { .. } => at.is_in_clause(),
+        Expr::Check { .. } => at.is_in_clause(),
+        Expr::Time { .. } => at.is_in_clause(),
+        Expr::Timeshift { .. } => at.is_in_clause(),
+        Expr::FillTimeSeries { .. } => at.is_in_clause(),
+        Expr::CallOf { .. } => false,
+        Expr::Typed { expr: inner, .. } => expr(inner.get(), at.of_part()),
+    }
+}
+
+#[cycle(walk)]
+fn two(first: &Expr, second: &Expr, at: Stand) -> bool
+    ensures { result ≡ (meant.expr_typed first.now at && meant.expr_typed second.now at) }
+{
+    expr(first, at) && expr(second, at)
+}
+
+#[cycle(walk)]
+fn three(first: &Expr, second: &Expr, third: &Expr, at: Stand) -> bool
+    ensures { result ≡ (meant.expr_typed first.now at && (meant.expr_typed second.now at && meant.expr_typed third.now at)) }
+{
+    expr(first, at) && two(second, third, at)
+}
+
+#[cycle(walk)]
+fn each(trees: &[Expr], at: Stand) -> bool
+    ensures { result ≡ list_all (λ t. meant.expr_typed t at) trees.now }
+{
+    for tree in trees {
+        if !expr(tree, at) {
+            return false;
+        }
+    }
+    true
+}
+
+#[cycle(walk)]
+fn optional(tree: &Option<Boxed<Expr>>, at: Stand) -> bool
+    ensures { result ≡ meant.if_given (λ t. meant.expr_typed t at) tree.now }
+{
+    match tree {
+        Some(tree) => expr(tree.get(), at),
+        None => true,
+    }
+}
+
+#[cycle(walk)]
+fn with_optional(tree: &Expr, other: &Option<Boxed<Expr>>, at: Stand) -> bool
+    ensures { result ≡ (meant.expr_typed tree.now at && meant.if_given (λ t. meant.expr_typed t at) other.now) }
+{
+    expr(tree, at) && optional(other, at)
+}
+
+#[cycle(walk)]
+fn replace(operand: &Expr, pattern: &Expr, by: &Option<Boxed<Expr>>, at: Stand) -> bool
+    ensures { result ≡ (meant.expr_typed operand.now at && (meant.expr_typed pattern.now at && meant.if_given (λ t. meant.expr_typed t at) by.now)) }
+{
+    expr(operand, at) && with_optional(pattern, by, at)
+}
+
+#[cycle(walk)]
+fn with_each(tree: &Expr, others: &[Expr], at: Stand) -> bool
+    ensures { result ≡ (meant.expr_typed tree.now at && list_all (λ t. meant.expr_typed t at) others.now) }
+{
+    expr(tree, at) && each(others, at)
+}
+
+#[cycle(walk)]
+fn sets(first: &Expr, second: &Expr, others: &[Expr], at: Stand) -> bool
+    ensures { result ≡ (meant.expr_typed first.now at && (meant.expr_typed second.now at && list_all (λ t. meant.expr_typed t at) others.now)) }
+{
+    expr(first, at) && with_each(second, others, at)
+}
+
+#[cycle(walk)]
+fn range_typed(range: &Option<SubstrRange>, at: Stand) -> bool
+    ensures { result ≡ meant.if_given (λ r. meant.range_typed r at) range.now }
+{
+    match range {
+        Some(range) => with_optional(range.start.get(), &range.length, at),
+        None => true,
+    }
+}
+
+#[cycle(walk)]
+fn with_range(tree: &Expr, range: &Option<SubstrRange>, at: Stand) -> bool
+    ensures { result ≡ (meant.expr_typed tree.now at && meant.if_given (λ r. meant.range_typed r at) range.now) }
+{
+    expr(tree, at) && range_typed(range, at)
+}
+
+#[cycle(walk)]
+fn with_clause(tree: &Expr, clause: &Clause, at: Stand) -> bool
+    ensures { result ≡ (meant.expr_typed tree.now at && meant.clause_typed clause.now at) }
+{
+    expr(tree, at) && clause_typed(clause, at)
+}
+
+#[cycle(walk)]
+fn clause_typed(clause: &Clause, at: Stand) -> bool
+    ensures { result ≡ meant.clause_typed clause.now at }
+{
+    match clause {
+        Clause::Filter { condition, .. } => expr(condition.get(), Stand::Inside),
+        Clause::Calc { items, .. } => items_typed(items.as_slice()),
+        Clause::Keep { .. } => true,
+        Clause::Drop { .. } => true,
+        Clause::Rename { .. } => true,
+        Clause::Sub { .. } => true,
+        Clause::Unpivot { .. } => true,
+        Clause::Aggr { .. } => at.is_in_clause(),
+    }
+}
+
+#[cycle(walk)]
+fn items_typed(items: &[Item]) -> bool
+    ensures { result ≡ list_all (λ i. meant.item_typed i Stand.Item) items.now }
+{
+    for item in items {
+        if !item_typed(item) {
+            return false;
+        }
+    }
+    true
+}
+
+#[cycle(walk)]
+fn item_typed(item: &Item) -> bool
+    ensures { result ≡ meant.item_typed item.now Stand.Item }
+{
+    expr(item.expr.get(), Stand::Item)
+}
+
+fn statements_typed(statements: &[Statement]) -> bool
+    ensures { result ≡ list_all meant.statement_typed statements.now }
+{
+    for statement in statements {
+        if !expr(&statement.expr, Stand::Outside) {
+            return false;
+        }
+    }
+    true
+}
+
+/// Whether the script has no rulesets, and no form that isn't typed yet: outside of clauses no join, aggregate, analytic
+/// operator, check or time operator, and no clause `aggr`; no analytic operator as a whole item of `calc`; and no call of a
+/// defined operator. Into a form that is refused in a clause in any case it doesn't look. Each expression is looked at once.
+pub fn can_be_typed(script: &Script) -> bool
+    ensures { result ≡ meant.can_be_typed script.now }
+{
+    script.rulesets.is_empty() && statements_typed(script.statements.as_slice())
+}
