@@ -4,7 +4,7 @@ ghost use Rattle.data_set_trees.specs.declared.operand.DataSet.{DataSet};
 ghost use Rattle.data_set_trees.specs.Trees as meant;
 ghost use Rattle.data_set_parts.specs.Results as own;
 
-use data_set_trees::{DataSet, DataSetNode, DataSetOperator, DataSetTree, Operand};
+use data_set_trees::{DataSet, DataSetNode, DataSetOperator, DataSetTree, Operand, SharedOperator};
 use sqlite_items::Items;
 use std::alloc::{AllocError, Global};
 use vtl_values::{Place, Structure};
@@ -63,7 +63,7 @@ pub fn applied(
     let parts = parted(alloc, operands)?;
     let copy = structure.copy()?;
     let node = DataSetNode {
-        operator,
+        operator: SharedOperator::of(alloc, operator)?,
         place,
         children: parts.trees,
         operands: parts.structures,

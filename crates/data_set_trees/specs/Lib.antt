@@ -1,6 +1,7 @@
 pub mod Components
 pub mod Forms
 pub mod Trees
+pub mod Coding
 pub mod Lifted
 pub mod Pairs
 pub mod Members

@@ -13,11 +13,13 @@ pub mod examples;
 mod form;
 mod measure;
 mod operand;
+mod shared;
 mod tree;
 
 pub use form::Form;
 pub use measure::Measure;
 pub use operand::{DataSet, Operand};
+pub use shared::SharedOperator;
 pub use tree::{
     Branch, ChoiceMeasure, DataSetNode, DataSetOperator, DataSetTree, SetOperation, Source,
 };

@@ -1,4 +1,5 @@
 // Trees of operators on data sets.
+use crate::shared::SharedOperator;
 use clause_trees::{CheckedClause, CheckedMeasure};
 use scalar_trees::CheckedExpr;
 use sqlite_items::Items;
@@ -75,7 +76,7 @@ pub enum DataSetTree {
 #[cycle(tree)]
 #[derive(Drop)]
 pub struct DataSetNode {
-    pub operator: DataSetOperator,
+    pub operator: SharedOperator,
     pub place: Place,
     pub children: Items<DataSetTree>,
     pub operands: Items<Structure>,

@@ -1,0 +1,17 @@
+use Rattle.std.proofs.Common.{◌≡◌, ◌&&◌, ◌∙◌}
+use Rattle.std.specs.List.{list_all}
+use Rattle.literal_ranges.specs.Ranges.{literals_in_range, clause_in_range, item_in_range}
+use Rattle.literal_ranges.proofs.Levels.{of-Sets, of-Calc}
+use Rattle.literal_ranges.proofs.literals.+walk.Goals as goal
+
+pub see_clause-returns-in-Calc : goal.see_clause-returns-in-Calc
+see_clause-returns-in-Calc t c =
+    let is : clause_in_range c.args.clause.now ≡ list_all item_in_range c.as_slice.result.now = rw (c.as_slice.ensures, c.in-Calc.is) (of-Calc c.in-Calc.items c.in-Calc.place) in
+    is ∙ c.see_items.ensures
+
+pub see_literals-returns-in-Sets : goal.see_literals-returns-in-Sets
+see_literals-returns-in-Sets t c =
+    let others = c.as_slice-in-Sets.result.now in
+    let is : literals_in_range c.args.tree.now ≡ (literals_in_range c.get-in-Sets.result.now && (literals_in_range c.get-in-Sets-2.result.now && list_all literals_in_range others)) =
+    rw (c.get-in-Sets.ensures, c.get-in-Sets-2.ensures, c.as_slice-in-Sets.ensures, c.in-Sets.is) (of-Sets c.in-Sets.function c.in-Sets.first c.in-Sets.second c.in-Sets.others c.in-Sets.place) in
+    is ∙ c.see_sets.ensures
