@@ -1,10 +1,11 @@
 -- Expressions: names, and operators at places with their operands.
-use Rattle.std.specs.Prelude.{List, [], ◌∷◌}
+use Rattle.std.specs.Prelude.{List, [], ◌∷◌, map}
 use Rattle.vtl_values.specs.declared.place.Place.{Place}
-use Rattle.checked_trees.specs.declared.tree.Source.{Source}
-use Rattle.checked_trees.specs.declared.tree.CheckedTree.{CheckedTree, fold-CheckedTree}
-use Rattle.checked_trees.specs.declared.tree.CheckedTree.TheOpen.{CheckedTree-F, CheckedNode-F}
-use Rattle.checked_trees.specs.Operators.{Operator}
+use Rattle.data_set_trees.specs.declared.tree.DataSetNode.{DataSetNode}
+use Rattle.data_set_trees.specs.declared.tree.Source.{Source}
+use Rattle.data_set_trees.specs.declared.tree.DataSetTree.{DataSetTree, fold-DataSetTree}
+use Rattle.data_set_trees.specs.declared.tree.DataSetTree.TheOpen.{DataSetTree-F, DataSetNode-F}
+use Rattle.checked_trees.specs.Operators.{an_operator, Operator}
 
 mutual
   -- a name of the sort N, or an operator at its place on its operands
@@ -20,16 +21,20 @@ abbrev pub expressions : {N : Type 0} → List (Expression N) → Expressions N
 expressions [] = none
 expressions (e ∷ es) = more e (expressions es)
 
-abbrev pub name_step : CheckedTree-F (Expression Source) (Expression Source) → Expression Source
-name_step (CheckedTree-F.Name source) = Named source
-name_step (CheckedTree-F.Op e) = e
+abbrev pub name_step : DataSetTree-F (Expression Source) (Expression Source) → Expression Source
+name_step (DataSetTree-F.Name source) = Named source
+name_step (DataSetTree-F.Operator e) = e
 
-abbrev pub node_step : CheckedNode-F (Expression Source) (Expression Source) → Expression Source
-node_step n = Applied (record { op = n.op; operands = n.operands; structure = n.structure }) n.place (expressions n.children)
+abbrev pub node_step : DataSetNode-F (Expression Source) (Expression Source) → Expression Source
+node_step n = Applied (an_operator n.operator n.operands n.structure) n.place (expressions n.children)
 
 -- the expression of a tree
-abbrev pub expression_of : CheckedTree → Expression Source
-expression_of = fold-CheckedTree (Expression Source) (Expression Source) name_step node_step
+abbrev pub expression_of : DataSetTree → Expression Source
+expression_of = fold-DataSetTree (Expression Source) (Expression Source) name_step node_step
+
+-- the expression of an operator of a tree
+abbrev pub expression_of_node : DataSetNode → Expression Source
+expression_of_node n = Applied (an_operator n.operator n.operands n.structure) n.place (expressions (map expression_of n.children))
 
 abbrev mutual
   -- the expression with other names

@@ -1,3 +1,4 @@
+pub mod Choices
 pub mod Operators
 pub mod Expressions
 pub mod Typing

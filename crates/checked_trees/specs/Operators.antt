@@ -1,45 +1,119 @@
--- Operators, and where they are well typed (docs/language.md, "Pairs").
-use Rattle.std.specs.Prelude.{◌≡◌, List, [], ◌∷◌, map}
-use Rattle.std.specs.List.{All}
-use Rattle.vtl_values.specs.declared.kind.Kind.TheVariants.{Number}
-use Rattle.vtl_values.specs.declared.kind.Role.TheVariants.{Measure}
-use Rattle.vtl_values.specs.declared.structure.Codes.TheVariants.{Any}
+-- Operators, and where they are well typed (docs/language.md, "Clauses", "Structures of results").
+use Rattle.std.specs.Prelude.{◌≡◌, ◌++◌, true, List, [], ◌∷◌, map, Option, refl}
+use Rattle.std.specs.Coded.{Coded, code_by, coded×, coded_list}
+use Rattle.std.specs.List.{All, list_all}
 use Rattle.vtl_values.specs.declared.structure.Component.{Component}
-use Rattle.checked_trees.specs.declared.tree.CheckedOp.{CheckedOp}
-use Rattle.checked_trees.specs.declared.tree.CheckedOp.TheVariants.{Pair}
-use Rattle.checked_trees.specs.declared.tree.CheckedPair.{CheckedPair}
-use Rattle.checked_trees.specs.declared.tree.CheckedPair.TheVariants.{Sum}
-use Rattle.structured_sets.specs.Fitting.{others}
+use Rattle.vtl_values.specs.Structures.{IsStructure}
+use Rattle.vtl_values.specs.contracts.structure.Structure as structure
+use Rattle.scalar_trees.specs.WellTyped.{Kinds, is_of_kind}
+use Rattle.typing_rules.specs.declared.scope.Basis.TheVariants.{Point}
+use Rattle.typing_rules.specs.Scopes.{kinds_of, column_of}
+use Rattle.clause_trees.specs.declared.clause.CheckedClause.{CheckedClause}
+use Rattle.clause_trees.specs.declared.clause.CheckedMeasure.{CheckedMeasure}
+use Rattle.clause_trees.specs.Frames.{frame_of}
+use Rattle.clause_trees.specs.After.{after}
+use Rattle.clause_trees.specs.WellTyped.{is_well_typed}
+use Rattle.data_set_trees.specs.contracts.tree.DataSetOperator as operator
+use Rattle.data_set_trees.specs.declared.tree.Branch.{Branch}
+use Rattle.data_set_trees.specs.declared.tree.ChoiceMeasure.{ChoiceMeasure}
+use Rattle.data_set_trees.specs.declared.tree.DataSetOperator.{DataSetOperator}
+use Rattle.data_set_trees.specs.declared.tree.DataSetOperator.TheVariants.{Clause, Pair, Choice, ExistsIn, Set}
+use Rattle.data_set_trees.specs.Components.{unlisted, virals_agree, are_alike}
+use Rattle.data_set_trees.specs.Exists.{common_agree, exists_structure}
+use Rattle.data_set_trees.specs.Pairs.{identifiers_agree, joined}
+use Rattle.checked_trees.specs.Choices.{is_branch, branches, IsChoiceOf}
 
 -- an operator with the structures of its operands and of its result
 pub record Operator : Type 0 where
-  pub op : CheckedOp
+  pub operator : DataSetOperator
   pub operands : List (List Component)
   pub structure : List Component
 
--- a measure that is a number
-abbrev pub IsNumber : Component → Type 0
-IsNumber c = (c.role ≡ Measure) × (c.kind ≡ Number)
+abbrev pub an_operator : DataSetOperator → List (List Component) → List Component → Operator
+an_operator operator operands structure = record { operator = operator; operands = operands; structure = structure }
 
--- the component without its code list
-abbrev pub without_codes : Component → Component
-without_codes c = record { name = c.name; role = c.role; kind = c.kind; codes = Any }
+abbrev pub operator_coded : Coded Operator
+operator_coded = code_by (DataSetOperator × (List (List Component) × List Component)) (coded× (operator.the_row).coded (coded× (coded_list (structure.the_row).coded) (structure.the_row).coded)) (λ o. (o.operator, (o.operands, o.structure))) (λ p. an_operator p.0 p.1.0 p.1.1) (λ _. refl)
 
--- the sum takes two data sets that are of one structure but for code lists, and gives one of that structure without any; what is no identifier is a measure that is a number
-pub record IsTypedSum (operands : List (List Component)) (structure : List Component) : Type 0 where
+-- a clause takes one data set, on which it is well typed, and gives what stands after it
+pub record IsTypedClause (clause : CheckedClause) (operands : List (List Component)) (structure : List Component) : Type 0 where
+  pub operand : List Component
+  pub one : operands ≡ operand ∷ []
+  pub typed : is_well_typed (frame_of operand) clause ≡ true
+  pub after_it : structure ≡ map unlisted (after clause (frame_of operand)).components
+
+-- the kinds of the components of both operands, which the measures of a pair may name
+abbrev pub kinds_on_both : List Component → List Component → Kinds
+kinds_on_both left right = kinds_of (map column_of (left ++ right)) Point
+
+-- One operand's identifiers include the other's, viral attributes of one name have one code list, each measure is of its
+-- kind, and the result has the identifiers of the first operand and further ones of the second, the measures, and the
+-- viral attributes likewise.
+pub record IsPairOf (items : List CheckedMeasure) (left right structure : List Component) : Type 0 where
+  pub identifiers_match : identifiers_agree left right ≡ true
+  pub virals_match : virals_agree left right ≡ true
+  pub of_kind : list_all (λ m. is_of_kind (kinds_on_both left right) m.value m.kind) items ≡ true
+  pub is_joined : structure ≡ joined items left right
+
+-- a scalar operator on two data sets
+pub record IsTypedPair (items : List CheckedMeasure) (operands : List (List Component)) (structure : List Component) : Type 0 where
   pub left : List Component
   pub right : List Component
   pub two : operands ≡ left ∷ right ∷ []
-  pub left_alike : map without_codes left ≡ structure
-  pub right_alike : map without_codes right ≡ structure
-  pub numbers : All IsNumber (others structure)
+  pub pair : IsPairOf items left right structure
 
-abbrev pub IsTypedPair : CheckedPair → List (List Component) → List Component → Type 0
-IsTypedPair Sum operands structure = IsTypedSum operands structure
+-- `exists_in`: identifiers of one name are of one kind, and the result has the identifiers and viral attributes of the
+-- first operand, and whether the second one has a point
+pub record IsTypedExists (operands : List (List Component)) (structure : List Component) : Type 0 where
+  pub left : List Component
+  pub right : List Component
+  pub two : operands ≡ left ∷ right ∷ []
+  pub kinds_match : common_agree left right ≡ true
+  pub gives : structure ≡ exists_structure left
 
--- the operator takes these structures and gives that one
-abbrev pub IsTyped : Operator → Type 0
-IsTyped o = by_op o.op
+-- a conditional takes its condition, and then the branches that are data sets
+pub record IsTypedChoice (holds fails : Branch) (items : List ChoiceMeasure) (operands : List (List Component)) (structure : List Component) : Type 0 where
+  pub condition : List Component
+  pub when_holds : Option (List Component)
+  pub when_fails : Option (List Component)
+  pub holds_is : is_branch holds when_holds ≡ true
+  pub fails_is : is_branch fails when_fails ≡ true
+  pub operands_are : operands ≡ condition ∷ branches when_holds when_fails
+  pub choice : IsChoiceOf items condition when_holds when_fails structure
+
+-- The others are of the first one's structure, whatever their order, and the result has the first one's.
+pub record IsTypedSet (operands : List (List Component)) (structure : List Component) : Type 0 where
+  pub first : List Component
+  pub others : List (List Component)
+  pub some : operands ≡ first ∷ others
+  pub alike : list_all (are_alike first) others ≡ true
+  pub bare : structure ≡ map unlisted first
+
+-- The operator takes these structures and gives that one. Of the operators on several data sets the scalar ones are
+-- built, and none of the others.
+abbrev pub TakesOperands : Operator → Type 0
+TakesOperands o = by_operator o.operator
   where
-    by_op : CheckedOp → Type 0
-    by_op (Pair pair) = IsTypedPair pair o.operands o.structure
+    by_operator : DataSetOperator → Type 0
+    by_operator (Clause clause) = IsTypedClause clause o.operands o.structure
+    by_operator (Pair items) = IsTypedPair items o.operands o.structure
+    by_operator (Choice holds fails items) = ⊥
+    by_operator (ExistsIn rows) = ⊥
+    by_operator (Set operation) = ⊥
+
+-- its operands and its result are data sets of structures, which it takes and gives
+pub record IsTyped (o : Operator) : Type 0 where
+  pub structures : All IsStructure o.operands
+  pub result : IsStructure o.structure
+  pub takes : TakesOperands o
+
+-- the operator takes these structures and gives that one, whether it is built or not
+abbrev pub IsTypedIfSaid : Operator → Type 0
+IsTypedIfSaid o = by_operator o.operator
+  where
+    by_operator : DataSetOperator → Type 0
+    by_operator (Clause clause) = IsTypedClause clause o.operands o.structure
+    by_operator (Pair items) = IsTypedPair items o.operands o.structure
+    by_operator (Choice holds fails items) = IsTypedChoice holds fails items o.operands o.structure
+    by_operator (ExistsIn rows) = IsTypedExists o.operands o.structure
+    by_operator (Set operation) = IsTypedSet o.operands o.structure

@@ -1,5 +1,5 @@
 -- Checked scripts (docs/language.md, "Checked scripts").
-use Rattle.std.specs.Prelude.{◌≡◌, ◌==◌, ◌≤◌, ◌<◌, ℕ, Bool, true, false, not, filter, count_by, List, [], ◌∷◌, ◌++◌, map, length, slice_get, Option, Some, None, Contains, AllPairs, ◌≢◌, ⊤, refl}
+use Rattle.std.specs.Prelude.{◌≡◌, ◌==◌, ◌≤◌, ◌<◌, ℕ, Bool, false, not, filter, count_by, List, [], ◌∷◌, ◌++◌, length, slice_get, Option, Some, None, Contains, AllPairs, ◌≢◌, ⊤, refl}
 use Rattle.std.specs.Option.{option_map}
 use Rattle.std.specs.List.{All, list_all}
 use Rattle.std.specs.Coded.{Coded, code_by, coded×, coded_list, coded_ℕ}
@@ -8,10 +8,11 @@ use Rattle.vtl_values.specs.Structures.{NamedStructures}
 use Rattle.checked_trees.specs.declared.script.CheckedStatement.{CheckedStatement}
 use Rattle.vtl_values.specs.contracts.structures.Structures as structures
 use Rattle.checked_trees.specs.contracts.script.CheckedStatement as statement
-use Rattle.checked_trees.specs.declared.tree.Source.{Source}
-use Rattle.checked_trees.specs.declared.tree.Source.TheVariants.{Input, Result}
+use Rattle.data_set_trees.specs.declared.tree.Source.{Source}
+use Rattle.data_set_trees.specs.declared.tree.Source.TheVariants.{Input, Result}
 use Rattle.checked_trees.specs.Expressions.{Expression, Expressions, Named, Applied, none, more, expression_of}
-use Rattle.checked_trees.specs.Typing.{HasStructure}
+use Rattle.checked_trees.specs.Operators.{Operator, IsTyped, IsTypedIfSaid}
+use Rattle.checked_trees.specs.Typing.{Fits}
 
 -- the inputs' structures, the statements as the script has them, and an order of their numbers
 pub record Script : Type 0 where
@@ -83,14 +84,22 @@ pub record IsOrder (s : Script) : Type 0 where
   pub once : AllPairs (λ i j. i ≢ j) s.order
   pub follows : FollowOperands s [] s.order
 
--- the statement's tree is well typed, with the statement's structure
-abbrev pub IsTypedStatement : Script → CheckedStatement → Type 0
-IsTypedStatement s statement = HasStructure (structure_of_source s) (expression_of statement.tree) statement.structure
+-- the operators of the statement's tree fit, and it has the statement's structure
+abbrev pub FitsStatement : (Operator → Type 0) → Script → CheckedStatement → Type 0
+FitsStatement fit s statement = Fits fit (structure_of_source s) (expression_of statement.tree) statement.structure
 
-pub record IsChecked (s : Script) : Type 0 where
+pub record IsScriptOf (fit : Operator → Type 0) (s : Script) : Type 0 where
   pub few : length s.statements ≤ 256
-  pub typed : All (IsTypedStatement s) s.statements
+  pub typed : All (FitsStatement fit s) s.statements
   pub ordered : IsOrder s
+
+-- the structures of a script's statements are worked out, and its operators are well typed, whether they are built or not
+abbrev pub IsTypedScript : Script → Type 0
+IsTypedScript = IsScriptOf IsTypedIfSaid
+
+-- all operators of a script are well typed, and built: it may be run
+abbrev pub IsChecked : Script → Type 0
+IsChecked = IsScriptOf IsTyped
 
 abbrev pub script_coded : Coded Script
 script_coded = code_by (NamedStructures × (List CheckedStatement × List ℕ)) (coded× (structures.the_row).coded (coded× (coded_list (statement.the_row).coded) (coded_list coded_ℕ))) (λ s. (s.inputs, (s.statements, s.order))) (λ p. record { inputs = p.0; statements = p.1.0; order = p.1.1 }) (λ _. refl)

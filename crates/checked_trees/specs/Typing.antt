@@ -5,13 +5,20 @@ use Rattle.checked_trees.specs.Operators.{Operator, IsTyped}
 use Rattle.checked_trees.specs.Expressions.{Expression, Expressions, Named, Applied, none, more}
 
 abbrev mutual
-  -- where names have these structures, the expression has that one, and each operator in it takes those of its operands
-  pub HasStructure : {N : Type 0} → (N → Option (List Component)) → Expression N → List Component → Type 0
-  HasStructure structures (Named n) s = structures n ≡ Some s
-  HasStructure structures (Applied o place es) s = (s ≡ o.structure) × IsTyped o × HaveStructures structures es o.operands
+  -- where names have these structures, the expression has that one; each operator in it takes those of its operands, and fits
+  pub Fits : {N : Type 0} → (Operator → Type 0) → (N → Option (List Component)) → Expression N → List Component → Type 0
+  Fits fit structures (Named n) s = structures n ≡ Some s
+  Fits fit structures (Applied o place es) s = (s ≡ o.structure) × fit o × AllFit fit structures es o.operands
 
-  pub HaveStructures : {N : Type 0} → (N → Option (List Component)) → Expressions N → List (List Component) → Type 0
-  HaveStructures structures none [] = ⊤
-  HaveStructures structures none (s ∷ ss) = ⊥
-  HaveStructures structures (more e es) [] = ⊥
-  HaveStructures structures (more e es) (s ∷ ss) = HasStructure structures e s × HaveStructures structures es ss
+  pub AllFit : {N : Type 0} → (Operator → Type 0) → (N → Option (List Component)) → Expressions N → List (List Component) → Type 0
+  AllFit fit structures none [] = ⊤
+  AllFit fit structures none (s ∷ ss) = ⊥
+  AllFit fit structures (more e es) [] = ⊥
+  AllFit fit structures (more e es) (s ∷ ss) = Fits fit structures e s × AllFit fit structures es ss
+
+-- where names have these structures, the expression is well typed and has that one
+abbrev pub HasStructure : {N : Type 0} → (N → Option (List Component)) → Expression N → List Component → Type 0
+HasStructure = Fits IsTyped
+
+abbrev pub HaveStructures : {N : Type 0} → (N → Option (List Component)) → Expressions N → List (List Component) → Type 0
+HaveStructures = AllFit IsTyped

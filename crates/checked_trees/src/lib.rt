@@ -1,12 +1,11 @@
-//! Scripts whose structures are worked out, ready to be run.
+//! Scripts whose structures are worked out, and those that may be run.
 //!
-//! It stands on `vtl_values` and the data sets of `point_sets`. A statement's tree is seen as an expression: names, and
-//! operators with the structures of their operands and of their result. A checked script keeps that its trees are well
-//! typed and that it has an order in which operands come first.
+//! It stands on the trees of `data_set_trees`. A statement's tree is seen as an expression: names, and operators with
+//! the structures of their operands and of their result. Both kinds of script keep that their trees have the structures
+//! that their statements have, and an order in which operands come first. In a `TypedScript` all operators are well typed,
+//! and in a `CheckedScript` they are built too.
 #![tactic(auto)]
 
 pub mod script;
-pub mod tree;
 
-pub use script::{CheckedScript, CheckedStatement};
-pub use tree::{CheckedNode, CheckedOp, CheckedPair, CheckedTree, Source};
+pub use script::{CheckedScript, CheckedStatement, TypedScript};

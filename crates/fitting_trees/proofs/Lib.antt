@@ -1,0 +1,9 @@
+pub mod Scalars
+pub mod Clauses
+pub mod Applied
+pub mod Components
+pub mod Lifted
+pub mod Pairs
+pub mod Choices
+pub mod Rows
+pub mod Expressions

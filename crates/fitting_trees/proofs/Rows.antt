@@ -1,0 +1,292 @@
+-- What each form of an expression is checked to be fits, where its operands do.
+use Rattle.std.proofs.Common.{◌≡◌, refl, ℕ, Bool, true, false, ◌&&◌, List, [], ◌∷◌, map, length, Option, Some, None, Ok, subst, ◌∙◌, if◌then◌else◌}
+use Rattle.std.proofs.lemmas.List.Folds.{list_all-map}
+use Rattle.std.proofs.lemmas.List.Elements.{All-nil, All-cons, All-head, All-tail}
+use Rattle.std.specs.Prelude.{unwrap_or, option_map}
+use Rattle.std.specs.List.{All, list_all}
+use Rattle.vtl_values.specs.declared.place.Place.{Place}
+use Rattle.vtl_values.specs.declared.structure.Component.{Component}
+use Rattle.vtl_values.specs.declared.value.Value.{Value}
+use Rattle.vtl_syntax.specs.declared.words.ExistsRows.{ExistsRows}
+use Rattle.vtl_syntax.specs.declared.words.ExistsRows.TheVariants as rows
+use Rattle.vtl_syntax.specs.declared.words.Sort.{Sort}
+use Rattle.vtl_syntax.specs.declared.words.Sort.TheVariants as sort
+use Rattle.vtl_syntax.specs.declared.expr.Clause.{Clause}
+use Rattle.scalar_trees.specs.WellTyped.{Kinds, in_range}
+use Rattle.typing_rules.specs.declared.stop.Fault.{Fault}
+use Rattle.typing_rules.specs.declared.stop.Fault.TheVariants.{UnknownComponent, WrongType, WrongStructure, NameTwice}
+use Rattle.typing_rules.specs.Scalars.{literal_typed, if_typed, sort_typed, place_of}
+use Rattle.typing_rules.specs.Sound.{IsTyped}
+use Rattle.typing_rules.specs.Steps.{◌>>=◌, or_refused, demanded}
+use Rattle.typing_rules.proofs.Sound.{both, left, right, if-typed, sort-typed}
+use Rattle.typing_rules.proofs.SoundSets.{literal-typed}
+use Rattle.clause_trees.specs.declared.clause.CheckedClause.{CheckedClause}
+use Rattle.clause_trees.specs.declared.clause.CheckedClause.TheVariants as clause
+use Rattle.clause_trees.specs.declared.clause.CheckedMeasure.{CheckedMeasure}
+use Rattle.clause_trees.specs.Frames.{frame_of}
+use Rattle.clause_trees.specs.Clauses.{demands}
+use Rattle.clause_trees.specs.WellTyped.{kinds_on, is_of}
+use Rattle.data_set_trees.specs.declared.form.Form.{Form}
+use Rattle.data_set_trees.specs.declared.measure.Measure.{Measure}
+use Rattle.data_set_trees.specs.declared.operand.DataSet.{DataSet}
+use Rattle.data_set_trees.specs.declared.operand.Operand.{Operand}
+use Rattle.data_set_trees.specs.declared.operand.Operand.TheVariants as operand
+use Rattle.data_set_trees.specs.declared.tree.ChoiceMeasure.{ChoiceMeasure}
+use Rattle.data_set_trees.specs.declared.tree.DataSetOperator.TheVariants as operator
+use Rattle.data_set_trees.specs.declared.tree.SetOperation.{SetOperation}
+use Rattle.data_set_trees.specs.declared.tree.Source.{Source}
+use Rattle.data_set_trees.specs.Components.{measures, virals_agree, are_alike, unlisted}
+use Rattle.data_set_trees.specs.Choices.{condition_fits, branches_fit, structures_fit, choice_measures, first_measures, choice_structure, chosen_ids, branch_of, choice_on, choice_typed}
+use Rattle.data_set_trees.specs.Exists.{common_agree, exists_structure, exists_typed}
+use Rattle.data_set_trees.specs.Expressions.{sorted, named_typed}
+use Rattle.data_set_trees.specs.Forms.{changed_name, is_of_two}
+use Rattle.data_set_trees.specs.Lifted.{answer, each_fits, all_fit, has_one_if, is_free, set_place, measures_checked, on_none, on_one, on_many}
+use Rattle.data_set_trees.specs.Members.{member_from, member_typed}
+use Rattle.data_set_trees.specs.OnClauses.{clause_checked, on_clause}
+use Rattle.data_set_trees.specs.Pairs.{identifiers_agree, measures_agree, meeting, both as both_slots, joined, result_fits, pairs_checked, on_two, lifted_on, lifted}
+use Rattle.data_set_trees.specs.Sets.{all_data_sets, set_of, sets_typed}
+use Rattle.data_set_trees.specs.Trees.{SetAnswer, applied, with_clause, data_sets}
+use Rattle.checked_trees.specs.Operators.{kinds_on_both, IsPairOf, IsTypedPair, IsTypedSet, IsTypedExists, IsTypedChoice}
+use Rattle.fitting_trees.specs.Fitting.{IsFitting}
+use Rattle.literal_ranges.specs.Ranges.{clause_in_range}
+use Rattle.fitting_trees.proofs.Applied.{applied-fits, clause-fits}
+use Rattle.fitting_trees.proofs.Choices.{structures_of, kinds_in, choice-typed}
+use Rattle.fitting_trees.proofs.Clauses.{clause-typed}
+use Rattle.fitting_trees.proofs.Components.{measures-there, member-is}
+use Rattle.fitting_trees.proofs.Lifted.{form_in_range, ScalarFits, SlotFits, answer-typed, measures-typed, pairs-typed}
+use Rattle.fitting_trees.proofs.Pairs.{both-there}
+use Rattle.fitting_trees.proofs.Scalars.{answered, refused-never, gave}
+
+-- ---- what was answered
+
+-- what is there was not refused
+or-given : {A : Type 0} (o : Option A) (fault : Fault) (place : Place) (x : A) → or_refused o fault place ≡ Ok x → o ≡ Some x
+or-given None fault place x e = cc
+or-given (Some y) fault place x e = cc
+
+-- what is demanded holds
+demanded-holds : (b : Bool) (fault : Fault) (place : Place) (u : Unit {0}) → demanded b fault place ≡ Ok u → b ≡ true
+demanded-holds true fault place u e = refl
+demanded-holds false fault place u e = cc
+
+demands-hold : (place : Place) (ds : List (Bool × Fault)) (u : Unit {0}) → demands place ds ≡ Ok u → list_all (λ d. d.0) ds ≡ true
+demands-hold place [] u e = refl
+demands-hold place (d ∷ ds) u e =
+    let first = gave (demanded d.0 d.1 place) (λ met. demands place ds) u e in
+    both d.0 (list_all (λ d. d.0) ds) (demanded-holds d.0 d.1 place first.0 first.1) (demands-hold place ds u first.2)
+
+module _ (structures : Source → Option (List Component)) (among : Source → Type 0) where
+  -- a data set that fits, or a scalar that is well typed whatever there is, since it names nothing
+  abbrev pub IsFit : Operand → Type 0
+  IsFit (operand.Scalar t) = (kinds : Kinds) → IsTyped kinds t
+  IsFit (operand.DataSet d) = IsFitting structures among d
+
+  -- what is answered fits
+  abbrev pub Fits : SetAnswer → Type 0
+  Fits answer = (o : Operand) → answer ≡ Ok o → IsFit o
+
+  abbrev SetFits : DataSet → Type 0
+  SetFits d = IsFitting structures among d
+
+  scalars-fit : (kinds : Kinds) (os : List Operand) → All IsFit os → All (ScalarFits kinds) os
+  scalars-fit kinds [] all = All-nil (ScalarFits kinds)
+  scalars-fit kinds (operand.Scalar t ∷ os) all = All-cons (ScalarFits kinds) (operand.Scalar t) os (All-head IsFit (operand.Scalar t) os all kinds) (scalars-fit kinds os (All-tail IsFit (operand.Scalar t) os all))
+  scalars-fit kinds (operand.DataSet d ∷ os) all = All-cons (ScalarFits kinds) (operand.DataSet d) os tt (scalars-fit kinds os (All-tail IsFit (operand.DataSet d) os all))
+
+  sets-fit : (os : List Operand) → All IsFit os → All SetFits (data_sets os)
+  sets-fit [] all = All-nil SetFits
+  sets-fit (operand.Scalar t ∷ os) all = sets-fit os (All-tail IsFit (operand.Scalar t) os all)
+  sets-fit (operand.DataSet d ∷ os) all = All-cons SetFits d (data_sets os) (All-head IsFit (operand.DataSet d) os all) (sets-fit os (All-tail IsFit (operand.DataSet d) os all))
+
+  given-fits : (given o : Operand) → IsFit given → ◌≡◌ {A = SetAnswer} (Ok given) (Ok o) → IsFit o
+  given-fits given o h e = subst IsFit (answered given o e) h
+
+  -- ---- a scalar operator
+
+  module _ (f : Form) (ranged : form_in_range f ≡ true) (place : Place) (os : List Operand) (all : All IsFit os) (changed : Option (List ℕ)) where
+    on_none-fits : Fits (on_none f place os)
+    on_none-fits o e =
+        let value = gave (answer f place os []) (λ t. Ok (operand.Scalar t)) o e in
+        given-fits (operand.Scalar value.0) o (λ kinds. answer-typed kinds f ranged place os (scalars-fit kinds os all) [] (All-nil (SlotFits kinds)) value.0 value.1) value.2
+
+    on_one-fits : (d : DataSet) → SetFits d → Fits (on_one f place os changed d)
+    on_one-fits d fit o e =
+        let s = d.structure in
+        let give : List CheckedMeasure → SetAnswer = λ items. Ok (operand.DataSet (with_clause (clause.Measures items) place d)) in
+        let asked = gave (demands place ((each_fits f place os, WrongType) ∷ (has_one_if changed (measures s), WrongStructure) ∷ (is_free changed s, NameTwice) ∷ [])) (λ met. answer f place os [] >>= (λ constants. measures_checked f place os changed (measures s) >>= give)) o e in
+        let constants = gave (answer f place os []) (λ constants. measures_checked f place os changed (measures s) >>= give) o asked.2 in
+        let items = gave (measures_checked f place os changed (measures s)) give o constants.2 in
+        let kinds = kinds_on (frame_of s) in
+        let well = measures-typed kinds f ranged place os (scalars-fit kinds os all) changed (measures s) (measures-there s) items.0 items.1 in
+        given-fits (operand.DataSet (with_clause (clause.Measures items.0) place d)) o (clause-fits structures among (clause.Measures items.0) place d fit well) items.2
+
+    on_two-fits : (s t : DataSet) → All SetFits (s ∷ t ∷ []) → Fits (on_two f place os changed s t)
+    on_two-fits s t fit o e =
+        let first = s.structure in
+        let second = t.structure in
+        let met = meeting changed (measures first) (measures second) in
+        let set : List CheckedMeasure → DataSet = λ items. applied (operator.Pair items) place (s ∷ t ∷ []) (joined items first second) in
+        let give : List CheckedMeasure → SetAnswer = λ items. result_fits place (joined items first second) >>= (λ fits. Ok (operand.DataSet (set items))) in
+        let kinds_agree = each_fits f place os && all_fit f place os (map (both_slots (length first)) met) in
+        let same = identifiers_agree first second in
+        let alike = measures_agree changed (measures first) (measures second) in
+        let coded = virals_agree first second in
+        let asks : List (Bool × Fault) = (kinds_agree, WrongType) ∷ (same && (alike && coded), WrongStructure) ∷ [] in
+        let asked = gave (demands place asks) (λ agree. pairs_checked f place os changed (length first) met >>= give) o e in
+        let items = gave (pairs_checked f place os changed (length first) met) give o asked.2 in
+        let result = gave (result_fits place (joined items.0 first second)) (λ fits. Ok (operand.DataSet (set items.0))) o items.2 in
+        let agree : (same && (alike && coded)) ≡ true = left (same && (alike && coded)) true (right kinds_agree ((same && (alike && coded)) && true) (demands-hold place asks asked.0 asked.1)) in
+        let kinds = kinds_on_both first second in
+        let pair : IsPairOf items.0 first second (joined items.0 first second) = record {
+          identifiers_match = left same (alike && coded) agree;
+          virals_match = right alike coded (right same (alike && coded) agree);
+          of_kind = pairs-typed kinds f ranged place os (scalars-fit kinds os all) changed (length first) met (both-there first second changed) items.0 items.1;
+          is_joined = refl;
+        } in
+        let takes : IsTypedPair items.0 (first ∷ second ∷ []) (joined items.0 first second) = record { left = first; right = second; two = refl; pair = pair } in
+        given-fits (operand.DataSet (set items.0)) o (applied-fits structures among (operator.Pair items.0) place (s ∷ t ∷ []) (joined items.0 first second) fit takes) result.2
+
+    on_many-fits : Fits (on_many f place os)
+    on_many-fits o e = absurd (refused-never (demands place ((each_fits f place os, WrongType) ∷ [])) place o e)
+
+    lifted_on-fits : (ds : List DataSet) → All SetFits ds → Fits (lifted_on f place os changed ds)
+    lifted_on-fits [] fit = on_none-fits
+    lifted_on-fits (d ∷ []) fit = on_one-fits d (All-head SetFits d [] fit)
+    lifted_on-fits (s ∷ t ∷ []) fit = elim (is_of_two f) as (λ (b : Bool). Fits (if b then on_two f place os changed s t else on_many f place os)) [ true ↦ on_two-fits s t fit | false ↦ on_many-fits ]
+    lifted_on-fits (s ∷ t ∷ d ∷ ds) fit = on_many-fits
+
+  pub lifted-fits : (f : Form) → form_in_range f ≡ true → (place : Place) (os : List Operand) → All IsFit os → Fits (lifted f place os)
+  lifted-fits f ranged place os all = lifted_on-fits f ranged place os all (changed_name f (set_place os)) (data_sets os) (sets-fit os all)
+
+  -- ---- names, literals, sorts
+
+  pub literal-fits : (v : Value) → in_range v ≡ true → Fits (Ok (operand.Scalar (literal_typed v)))
+  literal-fits v h o e = given-fits (operand.Scalar (literal_typed v)) o (λ kinds. literal-typed kinds v h) e
+
+  pub named-fits : (known : Option DataSet) (place : Place) → ((d : DataSet) → known ≡ Some d → SetFits d) → Fits (named_typed known place)
+  named-fits known place fit o e =
+      let set = gave (or_refused known UnknownComponent place) (λ d. Ok (operand.DataSet d)) o e in
+      given-fits (operand.DataSet set.0) o (fit set.0 (or-given known UnknownComponent place set.0 set.1)) set.2
+
+  pub sorted-fits : (s : Sort) (place : Place) (a : Operand) → IsFit a → Fits (sorted s place a)
+  sorted-fits s place (operand.Scalar t) h o e =
+      let value = gave (sort_typed s place t) (λ u. Ok (operand.Scalar u)) o e in
+      given-fits (operand.Scalar value.0) o (λ kinds. sort-typed kinds s place t (Ok value.0) value.1 (h kinds)) value.2
+  sorted-fits sort.Dataset place (operand.DataSet d) h o e = given-fits (operand.DataSet d) o h e
+  sorted-fits sort.Integer place (operand.DataSet d) h o e = cc
+  sorted-fits sort.Number place (operand.DataSet d) h o e = cc
+  sorted-fits sort.Text place (operand.DataSet d) h o e = cc
+  sorted-fits sort.Truth place (operand.DataSet d) h o e = cc
+
+  -- ---- operators on data sets
+
+  pub member-fits : (name : List ℕ) (place : Place) (a : Operand) → IsFit a → Fits (member_typed name place a)
+  member-fits name place (operand.Scalar t) h o e = cc
+  member-fits name place (operand.DataSet d) h o e =
+      let s = d.structure in
+      let set : CheckedMeasure → DataSet = λ m. with_clause (clause.Measures (m ∷ [])) place d in
+      let found = gave (or_refused (member_from 0 name s) UnknownComponent place) (λ m. demanded (is_free (Some m.name) s) NameTwice place >>= (λ met. Ok (operand.DataSet (set m)))) o e in
+      let free = gave (demanded (is_free (Some found.0.name) s) NameTwice place) (λ met. Ok (operand.DataSet (set found.0))) o found.2 in
+      let own = member-is s name found.0 (or-given (member_from 0 name s) UnknownComponent place found.0 found.1) in
+      given-fits (operand.DataSet (set found.0)) o (clause-fits structures among (clause.Measures (found.0 ∷ [])) place d h (both (is_of (frame_of s) found.0.kind found.0.value) true own refl)) free.2
+
+  pub exists-fits : (which : Option ExistsRows) (place : Place) (a b : Operand) → IsFit a → IsFit b → Fits (exists_typed which place a b)
+  exists-fits which place (operand.DataSet s) (operand.DataSet t) h i o e =
+      let result = exists_structure s.structure in
+      let set : DataSet = applied (operator.ExistsIn (unwrap_or which rows.All)) place (s ∷ t ∷ []) result in
+      let same = common_agree s.structure t.structure in
+      let agree = gave (demanded same WrongStructure place) (λ agree. result_fits place result >>= (λ fits. Ok (operand.DataSet set))) o e in
+      let fits = gave (result_fits place result) (λ fits. Ok (operand.DataSet set)) o agree.2 in
+      let takes : IsTypedExists (s.structure ∷ t.structure ∷ []) result = record { left = s.structure; right = t.structure; two = refl; kinds_match = demanded-holds same WrongStructure place agree.0 agree.1; gives = refl } in
+      given-fits (operand.DataSet set) o (applied-fits structures among (operator.ExistsIn (unwrap_or which rows.All)) place (s ∷ t ∷ []) result (All-cons SetFits s (t ∷ []) h (All-cons SetFits t [] i (All-nil SetFits))) takes) fits.2
+  exists-fits which place (operand.Scalar s) (operand.Scalar t) h i o e = cc
+  exists-fits which place (operand.Scalar s) (operand.DataSet t) h i o e = cc
+  exists-fits which place (operand.DataSet s) (operand.Scalar t) h i o e = cc
+
+  all_sets-fit : (os : List Operand) (ds : List DataSet) → All IsFit os → all_data_sets os ≡ Some ds → All SetFits ds
+  all_sets-fit [] ds all e = let none : [] ≡ ds = cc in subst (All SetFits) none (All-nil SetFits)
+  all_sets-fit (operand.Scalar t ∷ os) ds all e = cc
+  all_sets-fit (operand.DataSet d ∷ os) ds all e = by_others (all_data_sets os) (λ others i. all_sets-fit os others (All-tail IsFit (operand.DataSet d) os all) i) e
+    where
+      by_others : (others : Option (List DataSet)) → ((more : List DataSet) → others ≡ Some more → All SetFits more) → option_map (λ ds. d ∷ ds) others ≡ Some ds → All SetFits ds
+      by_others None fit h = cc
+      by_others (Some others) fit h =
+          let same : d ∷ others ≡ ds = cc in
+          subst (All SetFits) same (All-cons SetFits d others (All-head IsFit (operand.DataSet d) os all) (fit others refl))
+
+  set_of-fits : (operation : SetOperation) (place : Place) (ds : List DataSet) → All SetFits ds → Fits (set_of operation place ds)
+  set_of-fits operation place [] all o e = cc
+  set_of-fits operation place (d ∷ ds) all o e =
+      let result = map unlisted d.structure in
+      let set : DataSet = applied (operator.Set operation) place (d ∷ ds) result in
+      let others = map (λ (e : DataSet). e.structure) ds in
+      let same = list_all (λ (e : DataSet). are_alike d.structure e.structure) ds in
+      let alike = gave (demanded same WrongStructure place) (λ alike. Ok (operand.DataSet set)) o e in
+      let takes : IsTypedSet (d.structure ∷ others) result = record {
+        first = d.structure;
+        others = others;
+        some = refl;
+        alike = list_all-map (are_alike d.structure) (λ (e : DataSet). e.structure) ds ∙ demanded-holds same WrongStructure place alike.0 alike.1;
+        bare = refl;
+      } in
+      given-fits (operand.DataSet set) o (applied-fits structures among (operator.Set operation) place (d ∷ ds) result all takes) alike.2
+
+  pub sets_typed-fits : (operation : SetOperation) (place : Place) (os : List Operand) → All IsFit os → Fits (sets_typed operation place os)
+  sets_typed-fits operation place os all o e =
+      let sets = gave (or_refused (all_data_sets os) WrongStructure place) (set_of operation place) o e in
+      set_of-fits operation place sets.0 (all_sets-fit os sets.0 all (or-given (all_data_sets os) WrongStructure place sets.0 sets.1)) o sets.2
+
+  -- ---- conditionals
+
+  -- what a conditional asks for holds
+  choice-asks : (place : Place) (c a b : Operand) (u : Unit {0}) → demands place ((condition_fits c && branches_fit a b, WrongType) ∷ (structures_fit c (data_sets (a ∷ b ∷ [])), WrongStructure) ∷ []) ≡ Ok u → (condition_fits c ≡ true) × (structures_fit c (data_sets (a ∷ b ∷ [])) ≡ true)
+  choice-asks place c a b u e =
+      let kinds = condition_fits c && branches_fit a b in
+      let shape = structures_fit c (data_sets (a ∷ b ∷ [])) in
+      let asks : List (Bool × Fault) = (kinds, WrongType) ∷ (shape, WrongStructure) ∷ [] in
+      let all = demands-hold place asks u e in
+      (left (condition_fits c) (branches_fit a b) (left kinds (shape && true) all), left shape true (right kinds (shape && true) all))
+
+  -- it is well typed
+  choice-takes : (place : Place) (c a b : Operand) → All IsFit (c ∷ a ∷ b ∷ []) → condition_fits c ≡ true → structures_fit c (data_sets (a ∷ b ∷ [])) ≡ true → (ms : List Measure) (items : List ChoiceMeasure) → choice_measures place a b ms ≡ Ok items → IsTypedChoice (branch_of a) (branch_of b) items (structures_of (data_sets (c ∷ a ∷ b ∷ []))) (choice_structure items (data_sets (c ∷ a ∷ b ∷ [])) (chosen_ids (data_sets (c ∷ a ∷ b ∷ []))))
+  choice-takes place (operand.Scalar t) a b all truths shape ms items e = cc
+  choice-takes place (operand.DataSet c) a b all truths shape ms items e =
+      let others = All-tail IsFit (operand.DataSet c) (a ∷ b ∷ []) all in
+      let first = All-head (ScalarFits (kinds_in a)) a (b ∷ []) (scalars-fit (kinds_in a) (a ∷ b ∷ []) others) in
+      let second = All-head (ScalarFits (kinds_in b)) b [] (scalars-fit (kinds_in b) (b ∷ []) (All-tail IsFit a (b ∷ []) others)) in
+      choice-typed place a b first second c truths shape ms items e
+
+  choice_on-fits : (place : Place) (c a b : Operand) → All IsFit (c ∷ a ∷ b ∷ []) → Fits (choice_on place c a b)
+  choice_on-fits place c a b all o e =
+      let ds = data_sets (c ∷ a ∷ b ∷ []) in
+      let branches = data_sets (a ∷ b ∷ []) in
+      let result : List ChoiceMeasure → List Component = λ items. choice_structure items ds (chosen_ids ds) in
+      let set : List ChoiceMeasure → DataSet = λ items. applied (operator.Choice (branch_of a) (branch_of b) items) place ds (result items) in
+      let give : List ChoiceMeasure → SetAnswer = λ items. result_fits place (result items) >>= (λ fits. Ok (operand.DataSet (set items))) in
+      let agree = gave (demands place ((condition_fits c && branches_fit a b, WrongType) ∷ (structures_fit c branches, WrongStructure) ∷ [])) (λ agree. choice_measures place a b (first_measures branches) >>= give) o e in
+      let asks = choice-asks place c a b agree.0 agree.1 in
+      let items = gave (choice_measures place a b (first_measures branches)) give o agree.2 in
+      let fits = gave (result_fits place (result items.0)) (λ fits. Ok (operand.DataSet (set items.0))) o items.2 in
+      let takes = choice-takes place c a b all asks.0 asks.1 (first_measures branches) items.0 items.1 in
+      given-fits (operand.DataSet (set items.0)) o (applied-fits structures among (operator.Choice (branch_of a) (branch_of b) items.0) place ds (result items.0) (sets-fit (c ∷ a ∷ b ∷ []) all) takes) fits.2
+
+  pub choice-fits : (place : Place) (c a b : Operand) → All IsFit (c ∷ a ∷ b ∷ []) → Fits (choice_typed place c a b)
+  choice-fits place (operand.Scalar c) (operand.Scalar a) (operand.Scalar b) all o e =
+      let value = gave (if_typed place c a b) (λ t. Ok (operand.Scalar t)) o e in
+      let others = All-tail IsFit (operand.Scalar c) (operand.Scalar a ∷ operand.Scalar b ∷ []) all in
+      let own_c = All-head IsFit (operand.Scalar c) (operand.Scalar a ∷ operand.Scalar b ∷ []) all in
+      let own_a = All-head IsFit (operand.Scalar a) (operand.Scalar b ∷ []) others in
+      let own_b = All-head IsFit (operand.Scalar b) [] (All-tail IsFit (operand.Scalar a) (operand.Scalar b ∷ []) others) in
+      given-fits (operand.Scalar value.0) o (λ kinds. if-typed kinds place c a b (Ok value.0) value.1 (own_c kinds) (own_a kinds) (own_b kinds)) value.2
+  choice-fits place (operand.Scalar c) (operand.Scalar a) (operand.DataSet b) all o e = choice_on-fits place (operand.Scalar c) (operand.Scalar a) (operand.DataSet b) all o e
+  choice-fits place (operand.Scalar c) (operand.DataSet a) b all o e = choice_on-fits place (operand.Scalar c) (operand.DataSet a) b all o e
+  choice-fits place (operand.DataSet c) a b all o e = choice_on-fits place (operand.DataSet c) a b all o e
+
+  -- ---- clauses
+
+  pub on_clause-fits : (written : Clause) → clause_in_range written ≡ true → (a : Operand) → IsFit a → Fits (on_clause written a)
+  on_clause-fits written r (operand.Scalar t) h o e = cc
+  on_clause-fits written r (operand.DataSet d) h o e =
+      let set : CheckedClause → DataSet = λ c. with_clause c (place_of written) d in
+      let checked = gave (clause_checked written (frame_of d.structure)) (λ c. Ok (operand.DataSet (set c))) o e in
+      given-fits (operand.DataSet (set checked.0)) o (clause-fits structures among checked.0 (place_of written) d h (clause-typed (frame_of d.structure) written checked.0 r checked.1)) checked.2

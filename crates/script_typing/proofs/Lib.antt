@@ -1,0 +1,4 @@
+pub mod Walks
+pub mod Progress
+pub mod Fitting
+pub mod Results

@@ -1,0 +1,4 @@
+pub mod Stops
+pub mod States
+pub mod Views
+pub mod Scripts

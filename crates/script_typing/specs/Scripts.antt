@@ -1,0 +1,60 @@
+-- What a script is typed to be, or its first fault (docs/language.md, "Faults of structures").
+use Rattle.std.specs.Prelude.{◌≡◌, ℕ, List, [], ◌∷◌, Option, Some, None, Result, Ok, Err, length, ⊤}
+use Rattle.vtl_values.specs.Structures.{NamedStructures}
+use Rattle.vtl_syntax.specs.declared.script.Script as tree
+use Rattle.vtl_syntax.specs.declared.script.Statement.{Statement}
+use Rattle.shortest_cycles.specs.Paths.{Graph}
+use Rattle.script_graph.specs.Faults.{graph_of, first_fault}
+use Rattle.script_graph.specs.Orders.{order_of}
+use Rattle.typing_rules.specs.declared.stop.Refusal.{Refusal}
+use Rattle.data_set_trees.specs.declared.operand.DataSet.{DataSet}
+use Rattle.checked_trees.specs.declared.script.CheckedStatement.{CheckedStatement}
+use Rattle.checked_trees.specs.Scripts.{Script}
+use Rattle.script_typing.specs.declared.state.State.{State}
+use Rattle.script_typing.specs.declared.state.State.TheVariants.{Idle, Has, Fails}
+use Rattle.script_typing.specs.declared.stop.ScriptStop.{ScriptStop}
+use Rattle.script_typing.specs.declared.stop.ScriptStop.TheVariants as stop
+use Rattle.script_typing.specs.States.{after_all, start}
+
+-- what the statements come to, typed in this order
+abbrev pub states_after : NamedStructures → Graph → List Statement → List ℕ → List State
+states_after inputs g ts order = (after_all g ts order (start inputs (length ts))).states
+
+-- of the first statement in the script that has one
+abbrev pub first_refusal : List State → Option Refusal
+first_refusal [] = None
+first_refusal (Idle ∷ states) = first_refusal states
+first_refusal (Has d ∷ states) = first_refusal states
+first_refusal (Fails r ∷ states) = Some r
+
+-- a statement with the data set that it has
+abbrev pub with_set : Statement → DataSet → CheckedStatement
+with_set t d = record { name = t.name; persistent = t.persistent; tree = d.tree; structure = d.structure }
+
+-- the statements with their data sets, up to the first that has none
+abbrev pub with_sets : List Statement → List State → List CheckedStatement
+with_sets [] states = []
+with_sets (t ∷ ts) [] = []
+with_sets (t ∷ ts) (Idle ∷ states) = []
+with_sets (t ∷ ts) (Has d ∷ states) = with_set t d ∷ with_sets ts states
+with_sets (t ∷ ts) (Fails r ∷ states) = []
+
+abbrev pub unless_refused : Option Refusal → Script → Result Script Refusal
+unless_refused None script = Ok script
+unless_refused (Some r) script = Err r
+
+-- typed in this order, in which each statement stands after those that it uses
+abbrev pub typed_in : NamedStructures → Graph → List Statement → List ℕ → Result Script Refusal
+typed_in inputs g ts order =
+    let states = states_after inputs g ts order in
+    unless_refused (first_refusal states) (record { inputs = inputs; statements = with_sets ts states; order = order })
+
+-- what a script is typed to be over inputs of these structures, or its first fault of types; it has none of names and uses
+abbrev pub typed_of : NamedStructures → tree.Script → Result Script Refusal
+typed_of inputs script = typed_in inputs (graph_of script inputs) script.statements (order_of (graph_of script inputs))
+
+-- a stop is exactly the first fault of names and uses, or else that of types, or want of memory
+abbrev pub IsStop : NamedStructures → tree.Script → ScriptStop → Type 0
+IsStop inputs script (stop.Graph placed) = first_fault script inputs ≡ Some placed
+IsStop inputs script (stop.Refused r) = (first_fault script inputs ≡ None) × (typed_of inputs script ≡ Err r)
+IsStop inputs script stop.Memory = ⊤

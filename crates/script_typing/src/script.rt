@@ -1,0 +1,129 @@
+// A script with its structures worked out.
+ghost use Rattle.std.specs.Prelude.{◌≡◌, ◌≤◌, ◌∷◌, [], true, None, Ok, All, length, reverse, IfOk, IfErr, MatchOption};
+ghost use Rattle.vtl_syntax.specs.declared.script.Statement.{Statement as Statements};
+ghost use Rattle.script_graph.specs.Faults.{first_fault};
+ghost use Rattle.literal_ranges.specs.Ranges.{literals_in_range};
+ghost use Rattle.script_typing.specs.Scripts as meant;
+
+use crate::state::State;
+use crate::stop::ScriptStop;
+use crate::typing::states_of;
+use checked_trees::{CheckedStatement, TypedScript};
+use data_set_trees::DataSet;
+use literal_ranges::see_literals;
+use script_graph::{ScriptOrder, order};
+use sqlite_items::Items;
+use std::alloc::{AllocError, Global};
+use typing_rules::Refusal;
+use vtl_syntax::{Script, Statement};
+use vtl_values::Structures;
+
+/// The fault of the first that has one.
+fn first_refusal(states: &[State]) -> Option<Refusal>
+    ensures { result ≡ meant.first_refusal states.now }
+{
+    for state in states {
+        if let State::Fails(refusal) = state {
+            return Some(*refusal);
+        }
+    }
+    None
+}
+
+/// The same states, the last one first.
+fn last_first(alloc: Global, mut states: Items<State>) -> Result<Items<State>, AllocError>
+    ensures { IfOk result (λ turned. turned ≡ reverse states) }
+{
+    let mut turned = Items::new(alloc);
+    while let Some(state) = states.pop() {
+        turned.push(state)?;
+    }
+    Ok(turned)
+}
+
+/// Takes the first state of those that stand the last one first.
+fn take_first(turned: &mut Items<State>) -> Option<State>
+    ensures { MatchOption result (reverse turned.old ≡ []) (λ first. reverse turned.old ≡ first ∷ reverse turned.new) }
+{
+    turned.pop()
+}
+
+fn with_set(statement: &Statement, set: DataSet) -> Result<CheckedStatement, AllocError>
+    ensures { IfOk result (λ typed. typed ≡ meant.with_set statement.now set) }
+{
+    let DataSet { tree, structure } = set;
+    Ok(CheckedStatement {
+        name: statement.name.copy()?,
+        persistent: statement.persistent,
+        tree,
+        structure,
+    })
+}
+
+/// The statements with the data sets that they have come to.
+fn with_sets(
+    alloc: Global,
+    statements: &[Statement],
+    states: Items<State>,
+) -> Result<Items<CheckedStatement>, AllocError>
+    ensures { IfOk result (λ typed. typed ≡ meant.with_sets statements.now states) }
+{
+    let mut turned = last_first(alloc, states)?;
+    let mut typed = Items::new(alloc);
+    for statement in statements {
+        match take_first(&mut turned) {
+            Some(State::Has(set)) => typed.push(with_set(statement, set)?)?,
+            Some(State::Fails(_)) => return Ok(typed),
+            Some(State::Idle) => return Ok(typed),
+            None => return Ok(typed),
+        }
+    }
+    Ok(typed)
+}
+
+/// Looks at the literals of each statement, which tells that all are in range.
+fn see_statements(statements: &[Statement])
+    ensures { All (λ (t : Statements). literals_in_range t.expr ≡ true) statements.now }
+{
+    for statement in statements {
+        see_literals(&statement.expr);
+    }
+}
+
+/// The script with its structures worked out, over inputs of these structures. Its order is that of its graph.
+///
+/// # Errors
+/// The first fault of its names and uses; where there is none, the fault of types of the first statement of the script that
+/// has one. A statement has none of its own where it uses the result of one without a data set. A statement whose
+/// expression is a scalar is refused as `WrongStructure` at its place. Each is told exactly where there is one; else want
+/// of memory alone.
+///
+/// # Costs
+/// Each expression is typed once, and its literals are looked at once more.
+pub fn check_script(
+    alloc: Global,
+    script: &Script,
+    structures: Structures,
+) -> Result<TypedScript, ScriptStop>
+    requires { length script.now.statements ≤ 256 }
+    ensures ok { IfOk result (λ typed. meant.typed_of structures script.now ≡ Ok typed) }
+    ensures graph { IfOk result (λ _. first_fault script.now structures ≡ None) }
+    ensures inputs { IfOk result (λ typed. typed.inputs ≡ structures) }
+    ensures err { IfErr result (meant.IsStop structures script.now) }
+{
+    let ScriptOrder { order, uses } = order(alloc, script, &structures)?;
+    let statements = script.statements.as_slice();
+    let states = states_of(
+        alloc,
+        &structures,
+        statements,
+        uses.as_slice(),
+        order.as_slice(),
+    )?;
+    if let Some(refusal) = first_refusal(states.as_slice()) {
+        return Err(ScriptStop::Refused(refusal));
+    }
+    let typed = with_sets(alloc, statements, states)?;
+    see_statements(statements);
+    Ok(TypedScript::of(structures, typed, Items::from_vec(order)))
+}

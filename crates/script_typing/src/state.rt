@@ -1,0 +1,14 @@
+// What a statement comes to.
+use data_set_trees::DataSet;
+use typing_rules::Refusal;
+
+/// What a statement has come to.
+#[derive(Drop)]
+pub(crate) enum State {
+    /// it wasn't its turn yet, or it uses the result of a statement that has no data set
+    Idle,
+    /// its result is this data set
+    Has(DataSet),
+    /// this is its fault
+    Fails(Refusal),
+}
