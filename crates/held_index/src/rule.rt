@@ -61,7 +61,7 @@ pub trait DeltaRule {
         steps: &mut Steps<L>,
     ) -> Result<Delta, Stop>
         requires sync { IsSync R.row }
-        requires held { length held.now ≡ length (wanted self.now) }
+        requires held { map (λ h. h.want) held.now ≡ wanted self.now }
         requires news { length news.now ≡ arity self.now }
         requires few { before ≤ POINT_LIMIT }
         ensures answer { IsRightAnswer (admits self.now) (meaning self.now) (wanted self.now) held.now
