@@ -11,6 +11,7 @@ use Rattle.std.proofs.lemmas.Grind.{flat_map-append}
 use Rattle.std.proofs.Math.ListN.{get_or-map}
 use Rattle.std.specs.FinMap.{get, get-entries, find, keys, len, entries}
 use Rattle.std.proofs.lemmas.Option.{slice_get-get_or}
+use Rattle.vtl_values.specs.declared.structure.Component.{Component}
 use Rattle.vtl_values.specs.declared.value.Value.{Value}
 use Rattle.vtl_values.specs.Order.{key_cmp}
 use Rattle.vtl_values.proofs.Values.{key_cmp-IsTotalOrder, key_cmp-IsAntisymmetric}
@@ -44,7 +45,10 @@ use Rattle.held_index.specs.Rules.{SetOutcome, answer_of, after_news, AreAsked, 
 use Rattle.held_index.specs.declared.stop.Stop.{Stop}
 use Rattle.held_index.proofs.Rules.{IsRightAnswer-finished}
 use Rattle.clause_ops.specs.Noted.{noted_at, noted_change, IsNoted}
-use Rattle.clause_ops.specs.Rules.{ClauseOn, IsOperand, meaning_of}
+use Rattle.data_set_trees.specs.declared.tree.DataSetOperator.TheVariants.{Clause}
+use Rattle.checked_trees.specs.Operators.{Operator}
+use Rattle.operator_meaning.specs.Operators.{meaning_of, AreOperands}
+use Rattle.clause_ops.specs.Rules.{on_one}
 
 -- ---- lists of keys
 
@@ -207,19 +211,22 @@ module _ (clause : CheckedClause) (frame : Frame) (first : HasIdentifiersFirst f
 
 -- ---- the answer
 
--- whichever operand the rule is asked for, the finished draft is right where all changes are noted
-asked-right : (o : ClauseOn) (d : Changes) (before : ℕ) (n : SetDraft) (held : List Holding) → HasIdentifiersFirst (frame_of o.operand)
-    → ((a : DataSet) → IsSetOf o.operand a → IsSetOf o.operand (apply d a) → BeginsAt d a → IsNoted o.clause (frame_of o.operand) d a (keys d) n)
-    → (xs : List DataSet) (x : DataSet) → AreAsked (IsOperand o) (meaning_of o) [] held (d ∷ []) before xs x → IsRight (meaning_of o (after_news (d ∷ []) xs)) x (finished before n)
-asked-right o d before n held first noted [] x asked = absurd asked.admitted
-asked-right o d before n held first noted (a ∷ b ∷ xs) x asked = absurd asked.admitted.1
-asked-right o d before n held first noted (a ∷ []) x asked =
-    right-answer o.clause (frame_of o.operand) first d a asked.admitted.0 asked.admitted_after.0 x before n (noted a asked.admitted.0 asked.admitted_after.0 asked.begins.0) asked.result_is asked.count
+module _ (clause : CheckedClause) (operand structure : List Component) (d : Changes) (before : ℕ) (n : SetDraft) (held : List Holding) (first : HasIdentifiersFirst (frame_of operand))
+    (noted : (a : DataSet) → IsSetOf operand a → IsSetOf operand (apply d a) → BeginsAt d a → IsNoted clause (frame_of operand) d a (keys d) n) where
+  abbrev o : Operator
+  o = on_one (Clause clause) operand structure
 
-pub right-for-all : (o : ClauseOn) (d : Changes) (before : ℕ) (n : SetDraft) (held : List Holding) (answer : Result Changes Stop) → HasIdentifiersFirst (frame_of o.operand)
-    → ((a : DataSet) → IsSetOf o.operand a → IsSetOf o.operand (apply d a) → BeginsAt d a → IsNoted o.clause (frame_of o.operand) d a (keys d) n)
-    → IfSome (answer_of answer) (λ a. a ≡ finished before n) → IsRightAnswer (IsOperand o) (meaning_of o) [] held (d ∷ []) before answer
-right-for-all o d before n held answer first noted ends = IsRightAnswer-finished (IsOperand o) (meaning_of o) [] held (d ∷ []) before answer n ends (asked-right o d before n held first noted)
+  -- whichever operand the rule is asked for, the finished draft is right where all changes are noted
+  asked-right : (xs : List DataSet) (x : DataSet) → AreAsked (AreOperands o.operands) (meaning_of o) [] held (d ∷ []) before xs x → IsRight (meaning_of o (after_news (d ∷ []) xs)) x (finished before n)
+  asked-right [] x asked = absurd asked.admitted
+  asked-right (a ∷ b ∷ xs) x asked = absurd asked.admitted.1
+  asked-right (a ∷ []) x asked =
+      let old = asked.admitted.0.fits in
+      let new = asked.admitted_after.0.fits in
+      right-answer clause (frame_of operand) first d a old new x before n (noted a old new asked.begins.0) asked.result_is asked.count
+
+  pub right-for-all : (answer : Result Changes Stop) → IfSome (answer_of answer) (λ a. a ≡ finished before n) → IsRightAnswer (AreOperands o.operands) (meaning_of o) [] held (d ∷ []) before answer
+  right-for-all answer ends = IsRightAnswer-finished (AreOperands o.operands) (meaning_of o) [] held (d ∷ []) before answer n ends asked-right
 
 pub one-in : {X : Type 0} (xs : List X) (p : X) → length xs ≡ 1 → p ≡ get_or xs 0 p → p ∷ [] ≡ xs
 one-in [] p l e = absurd (omega arith)

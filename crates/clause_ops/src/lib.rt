@@ -7,7 +7,6 @@
 //! whichever data set its operand is. Threads may share a rule (`proofs/Shared.antt`).
 #![tactic(auto)]
 
-pub mod laws;
 mod notes;
 pub mod rule;
 

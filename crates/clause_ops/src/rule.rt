@@ -1,10 +1,15 @@
 // The rule of a clause on one data set.
-ghost use Rattle.std.specs.Prelude.{◌≡◌, IfOk};
+ghost use Rattle.std.specs.Prelude.{◌≡◌, ◌∷◌, [], IfOk};
+ghost use Rattle.vtl_values.specs.declared.structure.Component.{Component};
+ghost use Rattle.data_set_trees.specs.declared.tree.DataSetOperator.TheVariants.{Clause};
+ghost use Rattle.checked_trees.specs.Operators.{an_operator, IsTyped};
+ghost use Rattle.clause_ops.specs.Rules.{IsClause};
 
 use crate::notes::noted;
 use clause_eval::picks;
 use clause_trees::CheckedClause;
 use data_model::steps::Steps;
+use data_set_trees::{DataSetNode, DataSetOperator, SharedOperator};
 use held_index::{DeltaRule, Held, Stop, Want};
 use point_sets::Delta;
 use sqlite_items::Items;
@@ -18,54 +23,70 @@ use vtl_values::Structure;
 /// The rule of a clause on a data set. It keeps the numbers of the values that the clause takes over.
 #[derive(Drop)]
 pub struct ClauseRule {
-    clause: CheckedClause,
+    operator: SharedOperator,
     operand: Structure,
     structure: Structure,
     picks: Items<u64>,
 }
 
 impl Model for ClauseRule {
-    ghost use Rattle.clause_ops.specs.Rules.{ClauseOn, clause_on, clause_on_coded, IsRule};
+    ghost use Rattle.checked_trees.specs.Operators.{operator_coded, Operator};
+    ghost use Rattle.clause_ops.specs.Rules.{on_one, IsRule};
 
-    ghost Value = { ClauseOn };
+    ghost Value = { Operator };
 
-    ghost coded = { clause_on_coded };
+    ghost coded = { operator_coded };
 
-    ghost view = { λ r. clause_on r.clause r.operand r.structure };
+    ghost view = { λ r. on_one r.operator r.operand r.structure };
 
-    ghost invariant = { λ r. IsRule (clause_on r.clause r.operand r.structure) r.picks };
+    ghost invariant = { λ r. IsRule r.operator r.operand r.structure r.picks };
+}
+
+/// The clause that an operator is.
+fn clause_of(operator: &DataSetOperator) -> &CheckedClause
+    requires { IsClause operator.now }
+    ensures { operator.now ≡ Clause result.now }
+{
+    match operator {
+        DataSetOperator::Clause(clause) => clause,
+        _ => unreachable!(),
+    }
+}
+
+/// The one operand of a clause.
+fn operand_of(node: &DataSetNode) -> &Structure
+    requires typed { IsTyped (an_operator node.now.operator node.now.operands node.now.structure) }
+    requires clause { IsClause node.now.operator }
+    ensures { node.now.operands ≡ result.now ∷ [] }
+{
+    &node.operands.as_slice()[0]
 }
 
 impl ClauseRule {
-    ghost use Rattle.clause_ops.specs.Rules.{clause_on, IsClauseOn};
-
-    /// The rule of a clause that is well typed on its operand, where `structure` is that of its result.
-    pub fn of(
-        alloc: Global,
-        clause: CheckedClause,
-        operand: Structure,
-        structure: Structure,
-    ) -> Result<ClauseRule, AllocError>
-        requires { IsClauseOn (clause_on clause operand structure) }
-        ensures { IfOk result (λ rule. rule ≡ clause_on clause operand structure) }
+    /// The rule of a node's operator, which is a clause.
+    pub fn of(alloc: Global, node: &DataSetNode) -> Result<ClauseRule, AllocError>
+        requires typed { IsTyped (an_operator node.now.operator node.now.operands node.now.structure) }
+        requires clause { IsClause node.now.operator }
+        ensures { IfOk result (λ rule. rule ≡ an_operator node.now.operator node.now.operands node.now.structure) }
     {
-        let picks = picks(alloc, &clause, operand.components())?;
+        let operand = operand_of(node);
+        let picks = picks(alloc, clause_of(node.operator.get()), operand.components())?;
         Ok(ClauseRule {
-            clause,
-            operand,
-            structure,
+            operator: node.operator.copy()?,
+            operand: operand.copy()?,
+            structure: node.structure.copy()?,
             picks,
         })
     }
 }
 
 impl DeltaRule for ClauseRule {
-    ghost use Rattle.std.specs.Prelude.{[], refl};
-    ghost use Rattle.clause_ops.specs.Rules.{meaning_of, IsOperand};
+    ghost use Rattle.std.specs.Prelude.{length, refl};
+    ghost use Rattle.operator_meaning.specs.Operators.{meaning_of, AreOperands};
 
-    ghost arity = { λ _. 1 };
+    ghost arity = { λ r. length r.operands };
 
-    ghost admits = { IsOperand };
+    ghost admits = { λ r. AreOperands r.operands };
 
     ghost meaning = { meaning_of };
 
@@ -94,7 +115,8 @@ impl DeltaRule for ClauseRule {
         news: &[Arc<Delta>],
         _steps: &mut Steps<L>,
     ) -> Result<Delta, Stop> {
+        let clause = clause_of(self.operator.get());
         let (components, picks) = (self.operand.components(), self.picks.as_slice());
-        noted(alloc, &self.clause, components, picks, &news[0])?.finish(alloc, before)
+        noted(alloc, clause, components, picks, &news[0])?.finish(alloc, before)
     }
 }

@@ -12,42 +12,42 @@ use Rattle.vtl_values.specs.declared.place.Place.{Place}
 use Rattle.vtl_values.specs.declared.value.Value.{Value}
 use Rattle.vtl_values.specs.Order.{key_cmp}
 use Rattle.vtl_values.specs.Structures.{NamedStructures}
-use Rattle.vtl_values.proofs.Values.{key_cmp-IsTotalOrder, key_cmp-IsAntisymmetric}
-use Rattle.data_model.specs.Outcomes.{made, outcome}
-use Rattle.data_model.proofs.MapLemmas.{keys-empty}
-use Rattle.data_model.proofs.OutcomeLemmas.{outcome-nothing}
+use Rattle.data_model.specs.Outcomes.{made}
 use Rattle.point_sets.specs.DataSets.{DataSet}
 use Rattle.checked_trees.specs.declared.script.CheckedStatement.{CheckedStatement}
-use Rattle.checked_trees.specs.declared.tree.Source.{Source}
-use Rattle.checked_trees.specs.declared.tree.Source.TheVariants.{Input, Result as ResultOf}
-use Rattle.checked_trees.specs.declared.tree.CheckedOp.{CheckedOp}
-use Rattle.checked_trees.specs.declared.tree.CheckedOp.TheVariants.{Pair}
-use Rattle.checked_trees.specs.declared.tree.CheckedPair.TheVariants.{Sum}
-use Rattle.checked_trees.specs.Operators.{Operator, IsTyped}
+use Rattle.data_set_trees.specs.declared.tree.Source.{Source}
+use Rattle.data_set_trees.specs.declared.tree.Source.TheVariants.{Input, Result as ResultOf}
+use Rattle.clause_trees.specs.Frames.{frame_of}
+use Rattle.data_set_trees.specs.declared.tree.DataSetOperator.{DataSetOperator}
+use Rattle.data_set_trees.specs.declared.tree.DataSetOperator.TheVariants.{Clause, Pair, Choice, ExistsIn, Set}
+use Rattle.checked_trees.specs.Operators.{an_operator, Operator, IsTyped, TakesOperands}
 use Rattle.checked_trees.specs.Expressions.{Expression, Expressions, Named, Applied, none, more, expression_of}
 use Rattle.checked_trees.specs.Scripts.{Script, IsChecked, FollowOperands, IsOneOf, names_in, names_in_all, names_of, structure_of_source}
 use Rattle.checked_trees.specs.Typing.{HasStructure, HaveStructures}
+use Rattle.clause_meaning.proofs.Covered.{meaning-empty}
+use Rattle.pair_meaning.specs.Typed.{pair_on}
+use Rattle.pair_meaning.proofs.Paired.{left-empty}
 use Rattle.operator_meaning.specs.Operators.{meaning_of}
 use Rattle.operator_meaning.specs.Results.{Evaluated, without_points, sets_of, points_of, placed, worked, gathered, result_of, results_of}
 use Rattle.operator_meaning.specs.Scripts.{State, Has, Idle, state_of, set_in, set_named, worked_out, state_at, with_at, states_after, states, first_states, all_states, points_in, first_wrong, or_total, script_wrong}
-use Rattle.operator_meaning.specs.Sums.{sum, sum_at, is_out_of_range, evaluated}
 use Rattle.operator_meaning.proofs.Items.{Contains-nothing, Contains-head_or_tail}
 use Rattle.operator_meaning.proofs.ScriptLemmas.{result_of-same, with_at-same, with_at-other, names_of-there, in_order}
 
 -- ---- operators
 
-sum-empty : sum empty empty ≡ made empty
-sum-empty = ap (λ ks. outcome {R = key_cmp} ks (λ k. is_out_of_range (sum_at empty empty k)) ks (λ k. evaluated (sum_at empty empty k))) (keys-empty key_cmp (List Value)) ∙ outcome-nothing key_cmp-IsTotalOrder key_cmp-IsAntisymmetric (λ k. is_out_of_range (sum_at empty empty k)) (λ k. evaluated (sum_at empty empty k))
-
 abbrev pub empties : {A : Type 0} → List A → List DataSet
 empties = map (λ _. empty)
 
-parts-empty : (op : CheckedOp) (operands : List (List Component)) (structure : List Component) → IsTyped (record { op = op; operands = operands; structure = structure }) → meaning_of (record { op = op; operands = operands; structure = structure }) (empties operands) ≡ made empty
-parts-empty (Pair Sum) operands structure typed = ap (λ (ss : List (List Component)). meaning_of (record { op = Pair Sum; operands = operands; structure = structure }) (empties ss)) typed.two ∙ sum-empty
+parts-empty : (operator : DataSetOperator) (operands : List (List Component)) (structure : List Component) → TakesOperands (an_operator operator operands structure) → meaning_of (an_operator operator operands structure) (empties operands) ≡ made empty
+parts-empty (Clause clause) operands structure takes = ap (λ (ss : List (List Component)). meaning_of (an_operator (Clause clause) ss structure) (empties ss)) takes.one ∙ meaning-empty clause (frame_of takes.operand)
+parts-empty (Pair items) operands structure takes = ap (λ (ss : List (List Component)). meaning_of (an_operator (Pair items) ss structure) (empties ss)) takes.two ∙ left-empty (pair_on items takes.left takes.right structure) empty
+parts-empty (Choice holds fails items) operands structure takes = absurd takes
+parts-empty (ExistsIn rows) operands structure takes = absurd takes
+parts-empty (Set operation) operands structure takes = absurd takes
 
 -- what a typed operator gives on empty operands is empty
 pub meaning_of-empty : (o : Operator) → IsTyped o → meaning_of o (empties o.operands) ≡ made empty
-meaning_of-empty o typed = parts-empty o.op o.operands o.structure typed
+meaning_of-empty o typed = parts-empty o.operator o.operands o.structure typed.takes
 
 -- ---- expressions
 

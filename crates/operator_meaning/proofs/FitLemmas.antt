@@ -1,160 +1,89 @@
 -- Data sets that operators, expressions and statements give are of their structures.
-use Rattle.std.proofs.Common.{◌≡◌, ◌+◌, ℕ, ℤ, zero, suc, List, [], ◌∷◌, map, Bool, true, false, cond, Option, Some, None, Result, Ok, Err, option_map, refl, sym, ◌∙◌, ap, subst, inl, inr, arith}
-use Rattle.std.specs.Option.{is_some, unwrap_or, IfSome, option_and_then, option_zip}
-use Rattle.std.specs.Prelude.{filter, not}
-use Rattle.std.specs.List.{All, AllZip, list_all, slice_get}
-use Rattle.std.specs.FinMap.{empty, get, len, get-empty, len-empty}
+use Rattle.std.proofs.Common.{◌≡◌, ◌+◌, ℕ, zero, suc, List, [], ◌∷◌, map, Bool, true, false, cond, Option, Some, None, Result, Ok, Err, option_map, refl, sym, ◌∙◌, subst, inl, inr, arith}
+use Rattle.std.specs.Option.{is_some, unwrap_or}
+use Rattle.std.specs.List.{All, list_all, slice_get}
+use Rattle.std.specs.FinMap.{empty, len, get-empty, len-empty}
 use Rattle.std.proofs.lemmas.Bool.{cases_eq}
 use Rattle.std.proofs.lemmas.List.Elements.{All-get_or, All-head, All-tail}
 use Rattle.std.proofs.lemmas.Option.{get_or_from_slice_get, slice_get_within}
-use Rattle.vtl_values.specs.declared.kind.Kind.{Kind}
-use Rattle.vtl_values.specs.declared.kind.Kind.TheVariants.{Number as NumberKind}
-use Rattle.vtl_values.specs.declared.structure.Codes.{Codes}
-use Rattle.vtl_values.specs.declared.structure.Codes.TheVariants.{Any, Listed}
 use Rattle.vtl_values.specs.declared.structure.Component.{Component}
 use Rattle.vtl_values.specs.declared.value.Value.{Value}
-use Rattle.vtl_values.specs.declared.value.Value.TheVariants.{Null, Number, Text}
 use Rattle.vtl_values.specs.declared.place.Place.{Place}
 use Rattle.vtl_values.specs.Order.{key_cmp}
-use Rattle.vtl_values.specs.Ranges.{IsNumber}
-use Rattle.vtl_values.specs.Structures.{NamedStructures}
-use Rattle.vtl_values.specs.Texts.{Fits}
-use Rattle.vtl_decimals.specs.Arithmetic.{sum_of}
-use Rattle.vtl_decimals.proofs.SchoolLaws.{number_of-made}
-use Rattle.data_model.specs.Outcomes.{Made, Range, TooMany, IsOutcome}
+use Rattle.vtl_values.specs.Structures.{NamedStructures, IsStructure}
+use Rattle.data_model.specs.Outcomes.{Made, Range, TooMany}
 use Rattle.point_sets.specs.DataSets.{DataSet}
-use Rattle.structured_sets.specs.Fitting.{is_identifier, identifiers, others, FitsComponent, FitsIdentifier, IsPointOf, IsBoundedSetOf, is_in_codes}
+use Rattle.structured_sets.specs.Fitting.{IsBoundedSetOf}
 use Rattle.checked_trees.specs.declared.script.CheckedStatement.{CheckedStatement}
-use Rattle.checked_trees.specs.declared.tree.Source.{Source}
-use Rattle.checked_trees.specs.declared.tree.Source.TheVariants.{Input, Result as ResultOf}
-use Rattle.checked_trees.specs.declared.tree.CheckedOp.{CheckedOp}
-use Rattle.checked_trees.specs.declared.tree.CheckedOp.TheVariants.{Pair}
-use Rattle.checked_trees.specs.declared.tree.CheckedPair.TheVariants.{Sum}
-use Rattle.checked_trees.specs.Operators.{Operator, IsTyped, IsTypedSum, IsNumber as IsNumberMeasure, without_codes}
+use Rattle.data_set_trees.specs.declared.tree.Source.{Source}
+use Rattle.data_set_trees.specs.declared.tree.Source.TheVariants.{Input, Result as ResultOf}
+use Rattle.clause_trees.specs.declared.clause.CheckedClause.{CheckedClause}
+use Rattle.clause_trees.specs.declared.clause.CheckedMeasure.{CheckedMeasure}
+use Rattle.data_set_trees.specs.declared.tree.DataSetOperator.{DataSetOperator}
+use Rattle.data_set_trees.specs.declared.tree.DataSetOperator.TheVariants.{Clause, Pair, Choice, ExistsIn, Set}
+use Rattle.checked_trees.specs.Operators.{an_operator, Operator, IsTyped, IsTypedClause, IsTypedPair, TakesOperands}
 use Rattle.checked_trees.specs.Expressions.{Expression, Expressions, Named, Applied, none, more, expression_of}
 use Rattle.checked_trees.specs.Scripts.{Script, IsChecked, names_in, structure_of_source}
 use Rattle.checked_trees.specs.Typing.{HasStructure, HaveStructures}
-use Rattle.operator_meaning.specs.Operators.{SetOutcome, on_two, meaning_of, AreOperands}
+use Rattle.pair_meaning.specs.Typed as pairs
+use Rattle.pair_meaning.specs.Typed.{pair_on}
+use Rattle.operator_meaning.specs.Operators.{SetOutcome, pair_on_two, clause_on, meaning_of, AreOperands}
 use Rattle.operator_meaning.specs.Results.{Wrong, Evaluated, sets_of, points_of, placed, worked, gathered, result_of, results_of}
 use Rattle.operator_meaning.specs.Scripts.{State, Has, Fails, Idle, state_of, set_in, set_named, worked_out, state_at, with_at, states_after, states}
-use Rattle.operator_meaning.specs.Sums.{plus, plus_all, sum_at, is_out_of_range, evaluated, sum}
-use Rattle.operator_meaning.proofs.SumLemmas.{sum-IsOutcome}
+use Rattle.operator_meaning.proofs.ClauseFits.{left_by, clause-fits}
+use Rattle.operator_meaning.proofs.PairFits.{pair-fits}
 use Rattle.operator_meaning.proofs.ScriptLemmas.{with_at-same, with_at-other}
-
--- ---- values
-
-number_or_null : (x y z : Value) → plus x y ≡ Some z → Fits NumberKind z
-number_or_null (Number a) (Number b) z e = number (sum_of a b) (λ n made. (number_of-made _ n made).1) e
-  where
-    number : (o : Option ℤ) → ((n : ℤ) → o ≡ Some n → IsNumber n) → option_map Number o ≡ Some z → Fits NumberKind z
-    number None h e = cc
-    number (Some n) h e = let same : Number n ≡ z = cc in subst (λ (v : Value). Fits NumberKind v) same (h n refl)
-number_or_null x y z e = let same : Null ≡ z = cc in subst (λ (v : Value). Fits NumberKind v) same tt
-
--- a number is in every list of codes
-number-in_codes : (codes : Codes) (z : Value) → Fits NumberKind z → is_in_codes codes z ≡ true
-number-in_codes Any z h = refl
-number-in_codes (Listed codes) (Text text) h = absurd h
-number-in_codes (Listed codes) z h = refl
-
-plus-fits : (c : Component) (x y z : Value) → c.kind ≡ NumberKind → plus x y ≡ Some z → FitsComponent c z
-plus-fits c x y z kind e =
-    let number = number_or_null x y z e in
-    record { kind = subst (λ (k : Kind). Fits k z) (sym kind) number; codes = number-in_codes c.codes z number }
-
-plus_all-fits : (cs : List Component) (xs ys zs : List Value) → All IsNumberMeasure cs → AllZip FitsComponent cs xs → AllZip FitsComponent cs ys → plus_all xs ys ≡ Some zs → AllZip FitsComponent cs zs
-plus_all-fits [] [] ys zs numbers fx fy e = let same : [] ≡ zs = cc in subst (λ (vs : List Value). AllZip FitsComponent [] vs) same tt
-plus_all-fits [] (x ∷ xs) ys zs numbers fx fy e = absurd fx
-plus_all-fits (c ∷ cs) [] ys zs numbers fx fy e = absurd fx
-plus_all-fits (c ∷ cs) (x ∷ xs) [] zs numbers fx fy e = absurd fy
-plus_all-fits (c ∷ cs) (x ∷ xs) (y ∷ ys) zs numbers fx fy e =
-    by_sums (plus x y) (plus_all xs ys) refl (λ vs rest. plus_all-fits cs xs ys vs (All-tail IsNumberMeasure c cs numbers) fx.1 fy.1 rest) e
-  where
-    by_sums : (o : Option Value) (os : Option (List Value)) → plus x y ≡ o → ((vs : List Value) → os ≡ Some vs → AllZip FitsComponent cs vs) → option_map {T = Value × List Value} (λ p. p.0 ∷ p.1) (option_zip o os) ≡ Some zs → AllZip FitsComponent (c ∷ cs) zs
-    by_sums None os same rest e = cc
-    by_sums (Some z) None same rest e = cc
-    by_sums (Some z) (Some vs) same rest e =
-        let is : z ∷ vs ≡ zs = cc in
-        subst (λ (ws : List Value). AllZip FitsComponent (c ∷ cs) ws) is (plus-fits c x y z (All-head IsNumberMeasure c cs numbers).1 same, rest vs refl)
-
--- ---- points and data sets
-
-abbrev AreNumbers : List Component → Type 0
-AreNumbers cs = All IsNumberMeasure (others cs)
-
-point-fits : (cs : List Component) (k : List Value) (p q : Option (List Value)) → AreNumbers cs → IfSome p (IsPointOf cs k) → IfSome q (IsPointOf cs k)
-    → IfSome (evaluated (option_and_then (λ xs. option_map (λ ys. plus_all xs ys) q) p)) (IsPointOf cs k)
-point-fits cs k None q numbers fp fq = tt
-point-fits cs k (Some xs) None numbers fp fq = tt
-point-fits cs k (Some xs) (Some ys) numbers fp fq = by_sum (plus_all xs ys) refl
-  where
-    by_sum : (o : Option (List Value)) → plus_all xs ys ≡ o → IfSome o (IsPointOf cs k)
-    by_sum None e = tt
-    by_sum (Some zs) e = record { key_fits = fp.key_fits; rest_fits = plus_all-fits (others cs) xs ys zs numbers fp.rest_fits fq.rest_fits e }
-
-sum-fits : (cs : List Component) (a b y : DataSet) → AreNumbers cs → IsBoundedSetOf cs a → IsBoundedSetOf cs b → sum a b ≡ Made y → IsBoundedSetOf cs y
-sum-fits cs a b y numbers fa fb e =
-    let h = subst (λ (o : SetOutcome). IsOutcome {R = key_cmp} (λ k. is_out_of_range (sum_at a b k)) (λ k. evaluated (sum_at a b k)) o) e (sum-IsOutcome a b) in
-    record {
-      fits = λ k. subst (λ (o : Option (List Value)). IfSome o (IsPointOf cs k)) (sym (h.0.values k)) (point-fits cs k (get a k) (get b k) numbers (fa.fits k) (fb.fits k));
-      few = h.1;
-    }
 
 pub empty-fits : (cs : List Component) → IsBoundedSetOf cs empty
 empty-fits cs = record { fits = λ k. rw (get-empty key_cmp k) tt; few = let none = len-empty key_cmp (List Value) in omega (arith, none) }
 
 -- ---- operators
 
--- without code lists more values fit
-FitsComponent-open : (c : Component) (v : Value) → FitsComponent c v → FitsComponent (without_codes c) v
-FitsComponent-open c v h = record { kind = h.kind; codes = refl }
-
-FitsIdentifier-open : (c : Component) (v : Value) → FitsIdentifier c v → FitsIdentifier (without_codes c) v
-FitsIdentifier-open c v h = record { fits = FitsComponent-open c v h.fits; some = h.some }
-
-AllZip-open : (F : Component → Value → Type 0) → ((c : Component) (v : Value) → F c v → F (without_codes c) v) → (cs : List Component) (vs : List Value) → AllZip F cs vs → AllZip F (map without_codes cs) vs
-AllZip-open F opens [] [] h = h
-AllZip-open F opens [] (v ∷ vs) h = h
-AllZip-open F opens (c ∷ cs) [] h = h
-AllZip-open F opens (c ∷ cs) (v ∷ vs) h = (opens c v h.0, AllZip-open F opens cs vs h.1)
-
-filter-open : (p : Component → Bool) → ((c : Component) → p (without_codes c) ≡ p c) → (cs : List Component) → filter p (map without_codes cs) ≡ map without_codes (filter p cs)
-filter-open p same [] = refl
-filter-open p same (c ∷ cs) = rw (same c, filter-open p same cs) (elim (p c) as (λ b. cond b (without_codes c ∷ map without_codes (filter p cs)) (map without_codes (filter p cs)) ≡ map without_codes (cond b (c ∷ filter p cs) (filter p cs))) [ true ↦ refl | false ↦ refl ])
-
-IsPointOf-open : (cs : List Component) (key rest : List Value) → IsPointOf cs key rest → IsPointOf (map without_codes cs) key rest
-IsPointOf-open cs key rest h = record {
-  key_fits = subst (λ ds. AllZip FitsIdentifier ds key) (sym (filter-open is_identifier (λ c. refl) cs)) (AllZip-open FitsIdentifier FitsIdentifier-open (identifiers cs) key h.key_fits);
-  rest_fits = subst (λ ds. AllZip FitsComponent ds rest) (sym (filter-open (λ c. not (is_identifier c)) (λ c. refl) cs)) (AllZip-open FitsComponent FitsComponent-open (others cs) rest h.rest_fits);
-}
-
--- a data set of a structure is one of the structure without code lists
-IsBoundedSetOf-open : (cs : List Component) (m : DataSet) → IsBoundedSetOf cs m → IsBoundedSetOf (map without_codes cs) m
-IsBoundedSetOf-open cs m h = record { fits = λ k. point (get m k) k (h.fits k); few = h.few }
+two-fit : (items : List CheckedMeasure) (operands : List (List Component)) (structure : List Component) (xs : List DataSet) (y : DataSet) → All IsStructure operands → IsStructure structure → IsTypedPair items operands structure → AreOperands operands xs → pair_on_two items operands structure xs ≡ Made y → IsBoundedSetOf structure y
+two-fit items operands structure xs y structures result typed h e =
+    of_two xs (subst (λ (ss : List (List Component)). AreOperands ss xs) typed.two h) (subst (λ (ss : List (List Component)). pair_on_two items ss structure xs ≡ Made y) typed.two e)
   where
-    point : (o : Option (List Value)) (k : List Value) → IfSome o (IsPointOf cs k) → IfSome o (IsPointOf (map without_codes cs) k)
-    point None k i = tt
-    point (Some rest) k i = IsPointOf-open cs k rest i
+    both : All IsStructure (typed.left ∷ typed.right ∷ [])
+    both = subst (λ (ss : List (List Component)). All IsStructure ss) typed.two structures
 
-two-fit : (operands : List (List Component)) (structure : List Component) (xs : List DataSet) (y : DataSet) → IsTypedSum operands structure → AreOperands operands xs → on_two sum xs ≡ Made y → IsBoundedSetOf structure y
-two-fit operands structure xs y typed h e = of_two xs (subst (λ (ss : List (List Component)). AreOperands ss xs) typed.two h) e
-  where
-    of_two : (xs : List DataSet) → AreOperands (typed.left ∷ typed.right ∷ []) xs → on_two sum xs ≡ Made y → IsBoundedSetOf structure y
+    pair : pairs.IsTypedPair (pair_on items typed.left typed.right structure)
+    pair = record {
+      left_is = All-head IsStructure typed.left (typed.right ∷ []) both;
+      right_is = All-head IsStructure typed.right [] (All-tail IsStructure typed.left (typed.right ∷ []) both);
+      structure_is = result;
+      pair = typed.pair;
+    }
+
+    of_two : (xs : List DataSet) → AreOperands (typed.left ∷ typed.right ∷ []) xs → pair_on_two items (typed.left ∷ typed.right ∷ []) structure xs ≡ Made y → IsBoundedSetOf structure y
     of_two [] h e = absurd h
     of_two (a ∷ []) h e = absurd h.1
-    of_two (a ∷ b ∷ []) h e =
-        let fa = subst (λ (s : List Component). IsBoundedSetOf s a) typed.left_alike (IsBoundedSetOf-open typed.left a h.0) in
-        let fb = subst (λ (s : List Component). IsBoundedSetOf s b) typed.right_alike (IsBoundedSetOf-open typed.right b h.1.0) in
-        sum-fits structure a b y typed.numbers fa fb e
+    of_two (a ∷ b ∷ []) h e = pair-fits (pair_on items typed.left typed.right structure) a b y pair h.0.fits h.1.0.fits e
     of_two (a ∷ b ∷ c ∷ xs) h e = absurd h.1.1
 
-parts-fit : (op : CheckedOp) (operands : List (List Component)) (structure : List Component) (xs : List DataSet) (y : DataSet)
-    → IsTyped (record { op = op; operands = operands; structure = structure }) → AreOperands operands xs → meaning_of (record { op = op; operands = operands; structure = structure }) xs ≡ Made y → IsBoundedSetOf structure y
-parts-fit (Pair Sum) operands structure xs y typed h e = two-fit operands structure xs y typed h e
+one-fits : (clause : CheckedClause) (operands : List (List Component)) (structure : List Component) (xs : List DataSet) (y : DataSet) → All IsStructure operands → IsTypedClause clause operands structure → AreOperands operands xs → clause_on clause operands xs ≡ Made y → IsBoundedSetOf structure y
+one-fits clause operands structure xs y structures typed h e =
+    subst (λ (cs : List Component). IsBoundedSetOf cs y) (sym typed.after_it)
+    (of_one xs (subst (λ (ss : List (List Component)). AreOperands ss xs) typed.one h) (subst (λ (ss : List (List Component)). clause_on clause ss xs ≡ Made y) typed.one e))
+  where
+    first : IsStructure typed.operand
+    first = All-head IsStructure typed.operand [] (subst (λ (ss : List (List Component)). All IsStructure ss) typed.one structures)
+
+    of_one : (xs : List DataSet) → AreOperands (typed.operand ∷ []) xs → clause_on clause (typed.operand ∷ []) xs ≡ Made y → IsBoundedSetOf (left_by clause typed.operand) y
+    of_one [] h e = absurd h
+    of_one (a ∷ []) h e = clause-fits clause typed.operand a y first typed.typed h.0.fits e
+    of_one (a ∷ b ∷ xs) h e = absurd h.1
+
+parts-fit : (operator : DataSetOperator) (operands : List (List Component)) (structure : List Component) (xs : List DataSet) (y : DataSet)
+    → All IsStructure operands → IsStructure structure → TakesOperands (an_operator operator operands structure) → AreOperands operands xs → meaning_of (an_operator operator operands structure) xs ≡ Made y → IsBoundedSetOf structure y
+parts-fit (Clause clause) operands structure xs y structures result takes h e = one-fits clause operands structure xs y structures takes h e
+parts-fit (Pair items) operands structure xs y structures result takes h e = two-fit items operands structure xs y structures result takes h e
+parts-fit (Choice holds fails items) operands structure xs y structures result takes h e = absurd takes
+parts-fit (ExistsIn rows) operands structure xs y structures result takes h e = absurd takes
+parts-fit (Set operation) operands structure xs y structures result takes h e = absurd takes
 
 -- what a typed operator gives on operands of its structures is of its structure
 pub meaning_of-fits : (o : Operator) (xs : List DataSet) (y : DataSet) → IsTyped o → AreOperands o.operands xs → meaning_of o xs ≡ Made y → IsBoundedSetOf o.structure y
-meaning_of-fits o xs y typed h e = parts-fit o.op o.operands o.structure xs y typed h e
+meaning_of-fits o xs y typed h e = parts-fit o.operator o.operands o.structure xs y typed.structures typed.result typed.takes h e
 
 -- ---- expressions
 

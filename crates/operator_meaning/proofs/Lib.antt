@@ -1,5 +1,7 @@
-pub mod SumLemmas
 pub mod Items
 pub mod ScriptLemmas
+pub mod Opened
+pub mod ClauseFits
+pub mod PairFits
 pub mod FitLemmas
 pub mod EmptyLemmas

@@ -1,4 +1,3 @@
-pub mod Sums
 pub mod Operators
 pub mod Results
 pub mod Scripts

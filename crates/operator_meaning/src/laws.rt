@@ -5,7 +5,7 @@ ghost use Rattle.vtl_values.specs.declared.structure.Component.{Component};
 ghost use Rattle.data_model.specs.Outcomes.{Made};
 ghost use Rattle.point_sets.specs.DataSets.{DataSet};
 ghost use Rattle.checked_trees.specs.declared.script.CheckedStatement.{CheckedStatement};
-ghost use Rattle.checked_trees.specs.declared.tree.Source.{Source};
+ghost use Rattle.data_set_trees.specs.declared.tree.Source.{Source};
 ghost use Rattle.checked_trees.specs.Expressions.{Expression};
 ghost use Rattle.checked_trees.specs.Operators.{Operator, IsTyped};
 ghost use Rattle.checked_trees.specs.Scripts.{Script, IsChecked};

@@ -1,5 +1,5 @@
 -- The change that a key has in a delta.
-use Rattle.std.proofs.Common.{◌≡◌, ℕ, ◌<◌, List, map, length, get_or, Option, Some, None, Err, Result, sym, ◌∙◌, ap, subst}
+use Rattle.std.proofs.Common.{◌≡◌, ℕ, ◌<◌, List, map, length, get_or, Some, None, Err, Result, sym, ◌∙◌, ap, subst}
 use Rattle.std.specs.List.Sorted.{IsBinarySearchResult}
 use Rattle.std.specs.declared.cmp.Ordering.TheVariants.{Equal}
 use Rattle.std.proofs.lemmas.Option.{slice_get-get_or}
@@ -9,7 +9,8 @@ use Rattle.vtl_values.specs.Order.{key_cmp}
 use Rattle.vtl_values.proofs.Values.{key_cmp-IsTotalOrder, key_cmp-IsAntisymmetric}
 use Rattle.data_model.specs.Deltas.{Pair}
 use Rattle.point_sets.specs.declared.delta.Change.{Change}
-use Rattle.point_sets.specs.Changes.{Changes, change_entry, AreChanges}
+use Rattle.point_sets.specs.Changes.{Changes, change_entry, AreChanges, IsChange}
+use Rattle.point_sets.specs.DataSets.{HasKey}
 use Rattle.point_sets.proofs.Ordered.{find_at, find_gap, comparisons_rise}
 
 module _ (cs : List Change) (d : Changes) (all : map change_entry cs ≡ entries d) (ordered : AreChanges cs) where
@@ -27,3 +28,10 @@ module _ (cs : List Change) (d : Changes) (all : map change_entry cs ≡ entries
   -- or finds that there is none
   pub change_absent : (k : List Value) (i : ℕ) → (let r : Result ℕ ℕ = Err i in IsBinarySearchResult (λ c. key_cmp c.key k) cs r) → get d k ≡ None
   change_absent k i gap = by_list k ∙ find_gap key_cmp-IsTotalOrder key_cmp-IsAntisymmetric change_entry k cs i (gap (comparisons_rise key_cmp-IsTotalOrder key_cmp-IsAntisymmetric change_entry k cs ordered.ascend))
+
+  -- and so does the point that it leaves there
+  pub left_there : (k : List Value) (i : ℕ) (c : Change) → i < length cs → c ≡ get_or cs i c → ((b : Change) → key_cmp (get_or cs i b).key k ≡ Equal) → HasKey k c.new
+  left_there k i c within at tied =
+      let is : IsChange c = subst IsChange (sym at) (ordered.each i c within) in
+      let same : c.key ≡ k = ap (λ (b : Change). b.key) at ∙ key_cmp-IsAntisymmetric (get_or cs i c).key k (tied c) in
+      subst (λ (j : List Value). HasKey j c.new) same is.new

@@ -1,4 +1,9 @@
-pub mod Built
+pub mod Agree
+pub mod Asked
+pub mod Both
+pub mod Folds
 pub mod Found
-pub mod Pairs
+pub mod Meetings
+pub mod Parts
 pub mod ReachLemmas
+pub mod Shared

@@ -1,5 +1,4 @@
 pub mod Rules
-pub mod Evaluations
 pub mod Noted
 pub mod Reach
 pub mod ReachLaws

@@ -1,35 +1,51 @@
 -- The rules of operators on pairs.
-use Rattle.std.specs.Prelude.{◌≡◌, ℕ, List, [], ◌∷◌, length, refl}
-use Rattle.std.specs.Coded.{Coded, code_by, coded×, coded_list}
-use Rattle.std.specs.FinMap.{len}
-use Rattle.std.specs.List.{AllZip}
-use Rattle.vtl_values.specs.declared.structure.Component.{Component}
-use Rattle.vtl_values.specs.contracts.structure.Structure as structure
-use Rattle.checked_trees.specs.contracts.tree.CheckedOp as op
-use Rattle.checked_trees.specs.declared.tree.CheckedOp.{CheckedOp}
-use Rattle.checked_trees.specs.declared.tree.CheckedOp.TheVariants.{Pair}
-use Rattle.checked_trees.specs.declared.tree.CheckedPair.{CheckedPair}
+use Rattle.std.specs.Prelude.{◌≡◌, ℕ, List, [], ◌∷◌, if◌then◌else◌, slice_index_or}
+use Rattle.clause_trees.specs.declared.clause.CheckedMeasure.{CheckedMeasure}
+use Rattle.data_set_trees.specs.declared.tree.DataSetOperator.{DataSetOperator}
+use Rattle.data_set_trees.specs.declared.tree.DataSetOperator.TheVariants.{Pair}
 use Rattle.checked_trees.specs.Operators.{Operator, IsTyped}
 use Rattle.held_index.specs.declared.want.Want.{Want}
+use Rattle.pair_eval.specs.Plans.{pair_of, partner_numbers}
+use Rattle.pair_meaning.specs.Pairs.{PairOn, is_left_main}
 
-abbrev pub operator_coded : Coded Operator
-operator_coded = code_by (CheckedOp × (List (List Component) × List Component)) (coded× (op.the_row).coded (coded× (coded_list (structure.the_row).coded) (structure.the_row).coded)) (λ o. (o.op, (o.operands, o.structure))) (λ p. record { op = p.0; operands = p.1.0; structure = p.1.1 }) (λ _. refl)
+-- an operator on a pair of data sets
+abbrev pub IsPair : DataSetOperator → Type 0
+IsPair operator = (items : List CheckedMeasure) × (operator ≡ Pair items)
 
-abbrev pub an_operator : CheckedOp → List (List Component) → List Component → Operator
-an_operator op operands structure = record { op = op; operands = operands; structure = structure }
+-- an operator with its first two operands
+abbrev pub pair_in : Operator → PairOn
+pair_in o = pair_of o.operator (slice_index_or o.operands 0 []) (slice_index_or o.operands 1 []) o.structure
 
-abbrev pub operator_of : CheckedPair → List (List Component) → List Component → Operator
-operator_of pair = an_operator (Pair pair)
+-- the numbers of the main operand and of the other one
+abbrev pub main_number : PairOn → ℕ
+main_number p = if is_left_main p then 0 else 1
 
--- the operand of this number, held whole in the order of its keys
+abbrev pub partner_number : PairOn → ℕ
+partner_number p = if is_left_main p then 1 else 0
+
+-- the operand of this number in parts by these components, each in the order of the keys
+abbrev pub in_parts : ℕ → List ℕ → Want
+in_parts n components = record { operand = n; part = components; order = []; sums = [] }
+
+-- or whole
 abbrev pub whole : ℕ → Want
-whole n = record { operand = n; part = []; order = []; sums = [] }
+whole n = in_parts n []
 
--- both operands are wanted, whole
-abbrev pub both : List Want
-both = whole 0 ∷ whole 1 ∷ []
+-- the main operand is wanted in parts, by the identifiers that the other one has, and the other one whole
+abbrev pub wants_on : PairOn → List Want
+wants_on p = if is_left_main p then in_parts 0 (partner_numbers p) ∷ whole 1 ∷ [] else whole 0 ∷ in_parts 1 (partner_numbers p) ∷ []
 
--- the operator is well typed, and what is wanted is both operands
-pub record IsRule (o : Operator) (wants : List Want) : Type 0 where
+-- what the rule of an operator wants held: of one on a pair both operands
+abbrev pub wanted_of : Operator → List Want
+wanted_of o = by_operator o.operator
+  where
+    by_operator : DataSetOperator → List Want
+    by_operator (Pair items) = wants_on (pair_in o)
+    by_operator _ = []
+
+-- the operator is one on a pair, and well typed, the plan is the operator's, and what is wanted is what its rule wants
+pub record IsRule (o : Operator) (plan : PairOn) (wants : List Want) : Type 0 where
   pub typed : IsTyped o
-  pub wanted : wants ≡ both
+  pub pair : IsPair o.operator
+  pub planned : plan ≡ pair_in o
+  pub wanted : wants ≡ wanted_of o

@@ -1,13 +1,15 @@
-//! The delta rules of the operators on two data sets, so far of their sum.
+//! The delta rule of scalar operators on two data sets, where the identifiers of one include those of the other.
 //!
-//! It stands on the meanings of operators in `operator_meaning`, and on the held operands, the drafts and the trait of
-//! rules of `held_index`. At the key of each change the rule works out what the result had and has: the point of the
-//! operand that changes stands in the change, and its partner is looked up. `PairRule` is a `DeltaRule`: its answer is
-//! the right delta or the right fault, whichever two data sets the held operands stand for. Without a change it looks
-//! nothing up.
+//! It stands on the meanings of operators in `operator_meaning`, on `pair_eval` for keys and for what is made of two
+//! points, and on the held operands, the drafts and the trait of rules of `held_index`. The main operand gives the keys of
+//! the result. Its points are held in parts, by the identifiers that the other operand has, so that a part has the
+//! points that one point of the other operand meets; the other operand is held whole. For a change of the main operand
+//! its partner is looked up, as it was and after its news. For a change of the other one the part of its key is gone
+//! through, and each point there is taken as it was and after its news. `PairRule` is a `DeltaRule`: its answer is the
+//! right delta or the right fault, whichever two data sets the held operands stand for. Without a change it looks
+//! nothing up. Threads may share a rule (`proofs/Shared.antt`).
 #![tactic(auto)]
 
-mod evaluation;
 mod notes;
 pub mod rule;
 

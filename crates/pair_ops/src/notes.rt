@@ -1,93 +1,162 @@
 // What changes of the operands make of the result.
-ghost use Rattle.std.specs.Prelude.{◌≡◌, ◌+◌, ◌*◌, ◌≤◌, ◌++◌, List, IfOk, OnOk};
+ghost use Rattle.std.specs.Prelude.{◌≡◌, ◌+◌, ◌*◌, ◌≤◌, IfOk, OnOk, fold, if◌then◌else◌};
 ghost use Rattle.std.specs.Option.{option_copied};
 ghost use Rattle.std.specs.FinMap as finmap;
-ghost use Rattle.vtl_values.specs.declared.value.Value.{Value};
-ghost use Rattle.data_model.specs.Deltas.{after, BeginsAt};
-ghost use Rattle.data_model.specs.Drafts.{note_key};
-ghost use Rattle.operator_meaning.specs.Sums.{is_out_of_range, evaluated};
-ghost use Rattle.point_sets.specs.DataSets.{DataSet, HasKey, key_of};
-ghost use Rattle.point_sets.specs.Changes.{values_eq, values_of, IsChange};
+ghost use Rattle.data_model.specs.Deltas.{after, Differs};
+ghost use Rattle.data_model.specs.Drafts as drafts;
+ghost use Rattle.point_sets.specs.DataSets.{entry_of, key_of, HasKey};
+ghost use Rattle.point_sets.specs.Changes.{change_entry, values_eq, values_of, IsChange};
 ghost use Rattle.held_index.specs.Holdings.{IsPlain};
-ghost use Rattle.pair_ops.specs.Evaluations.{evaluation_of, point_in, seen_from};
-ghost use Rattle.pair_ops.specs.Noted.{noted_change, IsNoted};
+ghost use Rattle.clause_eval.specs.Evaluations as found;
+ghost use Rattle.clause_eval.specs.Evaluations.{IsEvaluation};
+ghost use Rattle.pair_meaning.specs.Pairs as meant;
+ghost use Rattle.pair_eval.specs.Made.{all_values, is_beyond, value_of};
+ghost use Rattle.pair_ops.specs.Noted.{in_turn, noted_main, noted_met, noted_partner, noted_point, part_steps, walk_steps};
 
-use crate::evaluation::{Evaluation, sum_at};
+use clause_eval::Evaluation;
 use data_model::steps::Steps;
 use held_index::{Draft, Held};
+use pair_eval::{PairPlan, Side};
 use point_sets::{Change, Delta, Key, Point};
+use sqlite_items::Items;
 use std::alloc::{AllocError, Global};
 use std::sync::Arc;
 use std::sync::ledger::Ledger;
 
-/// An operand of a pair.
+/// The point that may be at a key, before the news and after them.
 #[derive(Clone, Copy)]
-pub enum Side {
-    Left,
-    Right,
+struct Turn<'a> {
+    old: Option<&'a Arc<Point>>,
+    new: Option<&'a Arc<Point>>,
 }
 
-/// Notes what the changes of one operand make of the result; the other operand is held, and has news too. Each change
-/// takes one look.
-pub fn note_changes<L: Ledger>(
+/// Notes what the changes of the main operand make of the result; the other operand is held whole, and has news too.
+/// Each change takes one look.
+pub fn note_main<L: Ledger>(
     alloc: Global,
-    side: Side,
-    own: &Delta,
-    other: &Held,
+    plan: &PairPlan,
     news: &Delta,
+    partner: &Held,
+    partner_news: &Delta,
     draft: &mut Draft,
     steps: &mut Steps<L>,
 ) -> Result<(), AllocError>
-    ensures noted { OnOk result (IsPlain other.now.want → (a : DataSet) (ks : List (List Value)) → BeginsAt own.now a → IsNoted side own.now news.now a other.now.content ks draft.old → IsNoted side own.now news.now a other.now.content (ks ++ finmap.keys own.now) draft.new) }
-    ensures steps { steps.new ≤ steps.old + 2 * finmap.len own.now }
+    requires { IsPlain partner.now.want }
+    ensures noted { OnOk result (draft.new ≡ fold (noted_main plan.now partner.now.content partner_news.now) draft.old (finmap.entries news.now)) }
+    ensures differs { Differs news.now }
+    ensures steps { steps.new ≤ steps.old + 2 * finmap.len news.now }
 {
-    for change in own.changes() {
-        note_change(alloc, side, change, other, news, draft, steps)?;
+    for change in news.changes() {
+        note_main_change(alloc, plan, change, partner, partner_news, draft, steps)?;
     }
     Ok(())
 }
 
-fn note_change<L: Ledger>(
+fn note_main_change<L: Ledger>(
     alloc: Global,
-    side: Side,
+    plan: &PairPlan,
     change: &Change,
-    other: &Held,
+    partner: &Held,
+    partner_news: &Delta,
+    draft: &mut Draft,
+    steps: &mut Steps<L>,
+) -> Result<(), AllocError>
+    requires change { IsChange change.now }
+    requires plain { IsPlain partner.now.want }
+    ensures noted { OnOk result (draft.new ≡ noted_main plan.now partner.now.content partner_news.now draft.old (change_entry change.now)) }
+    ensures steps { steps.new ≤ steps.old + 2 }
+{
+    let at = place_at(alloc, plan.partner_key(alloc, &change.key)?);
+    let before = partner.get(&at, steps);
+    let after = point_after(partner_news, &at.key, before);
+    let partner = Turn {
+        old: before,
+        new: after,
+    };
+    note_met(alloc, plan, &change.key, turn_of(change), partner, draft)
+}
+
+/// A place to look a key up.
+fn place_at(alloc: Global, key: Key) -> Point
+    ensures { result.key ≡ key }
+{
+    Point {
+        key,
+        rest: Items::from_vec(Vec::new(alloc)),
+    }
+}
+
+/// Notes what the changes of the other operand make of the result; the main operand is held in parts, and has news too.
+/// Each change takes a look for each point that it meets, and one to count them.
+pub fn note_partner<L: Ledger>(
+    alloc: Global,
+    plan: &PairPlan,
     news: &Delta,
+    main: &Held,
+    main_news: &Delta,
+    draft: &mut Draft,
+    steps: &mut Steps<L>,
+) -> Result<(), AllocError>
+    ensures noted { OnOk result (draft.new ≡ fold (noted_partner plan.now main.now main_news.now) draft.old (finmap.entries news.now)) }
+    ensures steps { steps.new ≤ steps.old + walk_steps main.now (finmap.keys news.now) }
+{
+    for change in news.changes() {
+        note_partner_change(alloc, plan, change, main, main_news, draft, steps)?;
+    }
+    Ok(())
+}
+
+fn note_partner_change<L: Ledger>(
+    alloc: Global,
+    plan: &PairPlan,
+    change: &Change,
+    main: &Held,
+    main_news: &Delta,
     draft: &mut Draft,
     steps: &mut Steps<L>,
 ) -> Result<(), AllocError>
     requires { IsChange change.now }
-    ensures noted { OnOk result (IsPlain other.now.want → draft.new ≡ noted_change side change.now news.now other.now.content draft.old) }
-    ensures steps { steps.new ≤ steps.old + 2 }
+    ensures noted { OnOk result (draft.new ≡ noted_partner plan.now main.now main_news.now draft.old (change_entry change.now)) }
+    ensures steps { steps.new ≤ steps.old + part_steps main.now change.now.key }
 {
-    let before = partner(other, change, steps);
-    let after = point_after(news, &change.key, before);
-    let old = evaluate(alloc, side, &change.key, change.old.as_ref(), before)?;
-    let new = evaluate(alloc, side, &change.key, change.new.as_ref(), after)?;
-    note(&change.key, old, new, draft)
+    let count = main.count_in(&change.key, steps);
+    for n in 0..count {
+        let Some(point) = main.nth_in(&change.key, n, steps) else {
+            unreachable!()
+        };
+        note_point(alloc, plan, change, point, main_news, draft)?;
+    }
+    Ok(())
 }
 
-/// What the other operand has at the key of a change.
-fn partner<'a, L: Ledger>(
-    other: &'a Held,
+/// Notes what a change of the other operand makes of a point of the main one.
+fn note_point(
+    alloc: Global,
+    plan: &PairPlan,
     change: &Change,
-    steps: &mut Steps<L>,
-) -> Option<&'a Arc<Point>>
+    point: &Arc<Point>,
+    main_news: &Delta,
+    draft: &mut Draft,
+) -> Result<(), AllocError>
     requires { IsChange change.now }
-    ensures found { IsPlain other.now.want → values_of (option_copied result) ≡ finmap.get other.now.content change.now.key }
-    ensures steps { steps.new ≤ steps.old + 2 }
+    ensures { OnOk result (draft.new ≡ noted_point plan.now main_news.now (change_entry change.now) draft.old (entry_of point.now)) }
 {
-    other.get(point_of(change), steps)
+    let after = point_after(main_news, &point.key, Some(point));
+    let main = Turn {
+        old: Some(point),
+        new: after,
+    };
+    note_met(alloc, plan, &point.key, main, turn_of(change), draft)
 }
 
-/// A point at the key of a change.
-fn point_of(change: &Change) -> &Arc<Point>
-    requires { IsChange change.now }
-    ensures { key_of result.now ≡ change.now.key }
+/// The points of a change.
+fn turn_of(change: &Change) -> Turn<'_>
+    ensures old { option_copied result.old ≡ change.now.old }
+    ensures new { option_copied result.new ≡ change.now.new }
 {
-    match (&change.old, &change.new) {
-        (Some(point), _) | (None, Some(point)) => point,
-        (None, None) => unreachable!(),
+    Turn {
+        old: change.old.as_ref(),
+        new: change.new.as_ref(),
     }
 }
 
@@ -97,7 +166,8 @@ fn point_after<'a>(
     key: &Key,
     before: Option<&'a Arc<Point>>,
 ) -> Option<&'a Arc<Point>>
-    ensures { values_of (option_copied result) ≡ after (finmap.get delta.now key.now) (values_of (option_copied before.entry)) }
+    ensures value { values_of (option_copied result) ≡ after (finmap.get delta.now key.now) (values_of (option_copied before.entry)) }
+    ensures key { HasKey key.now (option_copied before.entry) → HasKey key.now (option_copied result) }
 {
     let changes = delta.changes();
     match changes.binary_search_by(|change| change.key.cmp(key)) {
@@ -106,28 +176,44 @@ fn point_after<'a>(
     }
 }
 
-/// The evaluation at a key, of the point of the operand on this side and that of the other one.
+/// Notes what was made of the points at a key of the main operand, and what is.
+fn note_met(
+    alloc: Global,
+    plan: &PairPlan,
+    key: &Key,
+    main: Turn<'_>,
+    partner: Turn<'_>,
+    draft: &mut Draft,
+) -> Result<(), AllocError>
+    ensures { OnOk result (draft.new ≡ noted_met plan.now (meant.result_key plan.now key.now) (in_turn plan.now (all_values (option_copied main.entry.old)) (all_values (option_copied partner.entry.old))) (in_turn plan.now (all_values (option_copied main.entry.new)) (all_values (option_copied partner.entry.new))) draft.old) }
+{
+    let key = plan.result_key(alloc, key)?;
+    let old = evaluate(alloc, plan, &key, main.old, partner.old)?;
+    let new = evaluate(alloc, plan, &key, main.new, partner.new)?;
+    note(&key, old, new, draft)
+}
+
+/// What is made, at a key of the result, of a point of the main operand and one of the other.
 fn evaluate(
     alloc: Global,
-    side: Side,
+    plan: &PairPlan,
     key: &Key,
-    own: Option<&Arc<Point>>,
-    other: Option<&Arc<Point>>,
+    main: Option<&Arc<Point>>,
+    partner: Option<&Arc<Point>>,
 ) -> Result<Evaluation, AllocError>
-    ensures value { IfOk result (λ found. evaluation_of found ≡ seen_from side (values_of (option_copied own.entry)) (values_of (option_copied other.entry))) }
-    ensures key { IfOk result (λ found. HasKey key.now (point_in found)) }
+    ensures { IfOk result (IsEvaluation key.now (is_beyond plan.now (in_turn plan.now (all_values (option_copied main.entry)) (all_values (option_copied partner.entry)))) (value_of plan.now (in_turn plan.now (all_values (option_copied main.entry)) (all_values (option_copied partner.entry))))) }
 {
-    match side {
-        Side::Left => sum_at(alloc, key, own, other),
-        Side::Right => sum_at(alloc, key, other, own),
+    match plan.main() {
+        Side::Left => plan.evaluate(alloc, key, main, partner),
+        Side::Right => plan.evaluate(alloc, key, partner, main),
     }
 }
 
 /// Notes what was made at a key, and what is.
 fn note(key: &Key, old: Evaluation, new: Evaluation, draft: &mut Draft) -> Result<(), AllocError>
-    requires old { HasKey key.now (point_in old) }
-    requires new { HasKey key.now (point_in new) }
-    ensures { OnOk result (draft.new ≡ note_key values_eq key.now (is_out_of_range (evaluation_of new)) (evaluated (evaluation_of old)) (evaluated (evaluation_of new)) draft.old) }
+    requires old { HasKey key.now (found.point_in old) }
+    requires new { HasKey key.now (found.point_in new) }
+    ensures { OnOk result (draft.new ≡ drafts.note_key values_eq key.now (found.is_beyond new) (values_of (found.point_in old)) (values_of (found.point_in new)) draft.old) }
 {
     if new.is_out_of_range() {
         return draft.note_beyond(key);

@@ -2,10 +2,11 @@
 ghost use Rattle.std.specs.Prelude.{◌≡◌, IfOk};
 ghost use Rattle.pair_ops.specs.Rules as rules;
 
-use crate::notes::{Side, note_changes};
-use checked_trees::{CheckedNode, CheckedOp, CheckedPair};
+use crate::notes::{note_main, note_partner};
 use data_model::steps::Steps;
+use data_set_trees::{DataSetNode, SharedOperator};
 use held_index::{DeltaRule, Draft, Held, Stop, Want};
+use pair_eval::{PairPlan, Side};
 use point_sets::Delta;
 use sqlite_items::Items;
 use std::alloc::{AllocError, Global};
@@ -18,23 +19,24 @@ use vtl_values::Structure;
 /// The rule of an operator on two data sets.
 #[derive(Drop)]
 pub struct PairRule {
-    pair: CheckedPair,
+    operator: SharedOperator,
     operands: Items<Structure>,
     structure: Structure,
+    plan: PairPlan,
     wants: Items<Want>,
 }
 
 impl Model for PairRule {
-    ghost use Rattle.checked_trees.specs.Operators.{Operator};
-    ghost use Rattle.pair_ops.specs.Rules.{operator_coded, operator_of, IsRule};
+    ghost use Rattle.checked_trees.specs.Operators.{an_operator, operator_coded, Operator};
+    ghost use Rattle.pair_ops.specs.Rules.{IsRule};
 
     ghost Value = { Operator };
 
     ghost coded = { operator_coded };
 
-    ghost view = { λ r. operator_of r.pair r.operands r.structure };
+    ghost view = { λ r. an_operator r.operator r.operands r.structure };
 
-    ghost invariant = { λ r. IsRule (operator_of r.pair r.operands r.structure) r.wants };
+    ghost invariant = { λ r. IsRule (an_operator r.operator r.operands r.structure) r.plan r.wants };
 }
 
 fn copy_all(alloc: Global, structures: &[Structure]) -> Result<Items<Structure>, AllocError>
@@ -47,43 +49,75 @@ fn copy_all(alloc: Global, structures: &[Structure]) -> Result<Items<Structure>,
     Ok(Items::from_vec(copies))
 }
 
-fn whole(alloc: Global, operand: u64) -> Want
-    ensures { result ≡ rules.whole operand }
+/// The operand of this number in parts by these components.
+fn in_parts(alloc: Global, operand: u64, components: &[u64]) -> Result<Want, AllocError>
+    ensures { IfOk result (λ want. want ≡ rules.in_parts operand components.now) }
 {
-    Want {
+    Ok(Want {
         operand,
-        part: Items::from_vec(Vec::new(alloc)),
+        part: Items::from_slice(alloc, components)?,
         order: Items::from_vec(Vec::new(alloc)),
         sums: Items::from_vec(Vec::new(alloc)),
-    }
+    })
+}
+
+/// What a plan wants held, in the order of the operands.
+fn wants_of(alloc: Global, plan: &PairPlan) -> Result<Items<Want>, AllocError>
+    ensures { IfOk result (λ wants. wants ≡ rules.wants_on plan.now) }
+{
+    let (left, right): (&[u64], &[u64]) = match plan.main() {
+        Side::Left => (plan.partner_numbers(), &[]),
+        Side::Right => (&[], plan.partner_numbers()),
+    };
+    let mut wants = Vec::new(alloc);
+    wants.push(in_parts(alloc, 0, left)?)?;
+    wants.push(in_parts(alloc, 1, right)?)?;
+    Ok(Items::from_vec(wants))
 }
 
 impl PairRule {
-    ghost use Rattle.std.specs.Prelude.{length};
-    ghost use Rattle.checked_trees.specs.Operators.{IsTyped};
-    ghost use Rattle.pair_ops.specs.Rules as rules;
+    ghost use Rattle.std.specs.Prelude.{◌<◌, length};
+    ghost use Rattle.checked_trees.specs.Operators.{an_operator, IsTyped};
+    ghost use Rattle.pair_ops.specs.Rules.{pair_in, IsPair};
 
     /// The rule of a node's operator, which is one on a pair.
-    pub fn of(alloc: Global, node: &CheckedNode) -> Result<PairRule, AllocError>
-        requires { IsTyped (record { op = node.now.op; operands = node.now.operands; structure = node.now.structure }) }
-        ensures { IfOk result (λ rule. rule ≡ record { op = node.now.op; operands = node.now.operands; structure = node.now.structure }) }
+    pub fn of(alloc: Global, node: &DataSetNode) -> Result<PairRule, AllocError>
+        requires typed { IsTyped (an_operator node.now.operator node.now.operands node.now.structure) }
+        requires pair { IsPair node.now.operator }
+        ensures { IfOk result (λ rule. rule ≡ an_operator node.now.operator node.now.operands node.now.structure) }
     {
-        let CheckedOp::Pair(pair) = node.op;
-        let mut wants = Vec::new(alloc);
-        wants.push(whole(alloc, 0))?;
-        wants.push(whole(alloc, 1))?;
+        let operands = node.operands.as_slice();
+        let (left, right) = (&operands[0], &operands[1]);
+        let plan = PairPlan::of(alloc, &node.operator, left, right, &node.structure)?;
+        let wants = wants_of(alloc, &plan)?;
         Ok(PairRule {
-            pair,
-            operands: copy_all(alloc, node.operands.as_slice())?,
+            operator: node.operator.copy()?,
+            operands: copy_all(alloc, operands)?,
             structure: node.structure.copy()?,
-            wants: Items::from_vec(wants),
+            plan,
+            wants,
         })
     }
 
-    fn pair(&self) -> CheckedPair
-        ensures { length self.now.operands ≡ 2 }
+    /// The plan of the operator, which is on a pair: there are two operands.
+    fn plan(&self) -> &PairPlan
+        ensures two { length self.now.operands ≡ 2 }
+        ensures typed { IsTyped self.now }
+        ensures pair { IsPair self.now.operator }
+        ensures planned { result.now ≡ pair_in self.now }
     {
-        self.pair
+        &self.plan
+    }
+}
+
+/// The numbers of the main operand and of the other one.
+fn numbers_of(plan: &PairPlan) -> (usize, usize)
+    ensures main { result.0 ≡ rules.main_number plan.now }
+    ensures partner { result.1 ≡ rules.partner_number plan.now }
+{
+    match plan.main() {
+        Side::Left => (0, 1),
+        Side::Right => (1, 0),
     }
 }
 
@@ -92,7 +126,7 @@ impl DeltaRule for PairRule {
     ghost use Rattle.operator_meaning.specs.Operators.{meaning_of, AreOperands};
     ghost use Rattle.pair_ops.specs.Reach.{matching_reach};
     ghost use Rattle.pair_ops.specs.ReachLaws.{no_reach};
-    ghost use Rattle.pair_ops.specs.Rules.{both};
+    ghost use Rattle.pair_ops.specs.Rules.{main_number, pair_in, wanted_of};
 
     ghost arity = { λ r. length r.operands };
 
@@ -100,13 +134,13 @@ impl DeltaRule for PairRule {
 
     ghost meaning = { meaning_of };
 
-    ghost wanted = { λ _. both };
+    ghost wanted = { wanted_of };
 
     ghost structure = { λ r. r.structure };
 
-    ghost reach = { λ r. matching_reach r.operands 0 };
+    ghost reach = { λ r. matching_reach r.operands (main_number (pair_in r)) };
 
-    ghost rests = { λ r. no_reach r.operands 0 };
+    ghost rests = { λ r. no_reach r.operands (main_number (pair_in r)) };
 
     fn wants(&self) -> &[Want] {
         self.wants.as_slice()
@@ -125,12 +159,13 @@ impl DeltaRule for PairRule {
         news: &[Arc<Delta>],
         steps: &mut Steps<L>,
     ) -> Result<Delta, Stop> {
-        let CheckedPair::Sum = self.pair();
-        let (a, b) = (&held[0], &held[1]);
-        let (left, right) = (&news[0], &news[1]);
+        let plan = self.plan();
+        let (main, partner) = numbers_of(plan);
+        let (own, other) = (&news[main], &news[partner]);
+        let (parts, whole) = (&held[main], &held[partner]);
         let mut draft = Draft::new(alloc);
-        note_changes(alloc, Side::Left, left, b, right, &mut draft, steps)?;
-        note_changes(alloc, Side::Right, right, a, left, &mut draft, steps)?;
+        note_main(alloc, plan, own, whole, other, &mut draft, steps)?;
+        note_partner(alloc, plan, other, parts, own, &mut draft, steps)?;
         draft.finish(alloc, before)
     }
 }

@@ -1,31 +1,72 @@
--- The changes of both operands are noted, and so the draft ends in the right answer.
-use Rattle.std.proofs.Common.{List, [], ◌∷◌, map, sym, ap, subst, ◌∙◌}
+-- The changes of both operands are noted, and so the draft ends in the right answer, within the reach.
+use Rattle.std.proofs.Common.{◌≡◌, ap, subst, ◌∙◌, arith}
+use Rattle.std.specs.Prelude.{fold}
 use Rattle.std.specs.Arc.{arc_value}
-use Rattle.std.specs.FinMap.{keys}
-use Rattle.data_model.specs.Deltas.{BeginsAt}
+use Rattle.std.specs.Option.{IfSome}
+use Rattle.std.specs.FinMap.{entries}
+use Rattle.data_model.specs.Deltas.{Differs}
+use Rattle.data_model.specs.Drafts.{finished}
 use Rattle.point_sets.specs.Changes.{Changes}
 use Rattle.held_index.specs.Drafts.{SetDraft}
-use Rattle.held_index.specs.Holdings.{Holding, IsPlain}
-use Rattle.held_index.specs.Rules.{IsRightAnswer}
-use Rattle.pair_ops.specs.Noted.{IsNoted}
-use Rattle.checked_trees.specs.Operators.{Operator}
-use Rattle.operator_meaning.specs.Operators.{meaning_of, AreOperands}
-use Rattle.pair_ops.specs.Rules.{both}
-use Rattle.pair_ops.specs.declared.notes.Side.TheVariants.{Left}
-use Rattle.pair_ops.proofs.Pairs.{noted-nothing, right_answer, two_in}
+use Rattle.held_index.specs.Rules.{answer_of}
+use Rattle.pair_ops.specs.Noted.{noted_main, noted_partner}
+use Rattle.pair_ops.proofs.Asked.{drafted, of_two}
+use Rattle.pair_ops.proofs.Both.{answers, plain, within}
 use Rattle.pair_ops.proofs.rule.PairRuleDeltaRule.delta.Goals as goal
+
+pub note_main-requires : goal.note_main-requires
+note_main-requires g c =
+    let own = c.plan-plan.ensures in
+    plain c.args.self.now (of_two c.args.self.now own.typed own.pair) c.plan-plan.result.now own.planned c.args.held.now c.requires.held c.args.news.now
+    c.index-held-main.result c.index-held-partner.result c.index-news-main.result c.index-news-partner.result c.numbers_of-main.result.0 c.numbers_of-main.result.1 c.numbers_of-main.ensures.main c.numbers_of-main.ensures.partner
+    c.index-held-main.is c.index-held-partner.is c.index-news-main.is c.index-news-partner.is
 
 pub returns-clause-answer : goal.returns-clause-answer
 returns-clause-answer g c =
-    let o : Operator = c.args.self.now in
-    let h : Holding = c.index-held-0.result in
-    let k : Holding = c.index-held-1.result in
-    let d : Changes = arc_value c.index-news-0.result in
-    let e : Changes = arc_value c.index-news-1.result in
-    let first = rw (c.deref.ensures, c.deref-2.ensures) at c.in_ok-note_changes.ensures.noted in
-    let second = rw (c.deref-3.ensures, c.deref-4.ensures) at c.in_ok-note_changes-2.ensures.noted in
-    let start = subst (λ (n : SetDraft). IsNoted Left d e h.content k.content [] n) (sym c.new-draft.ensures) (noted-nothing Left d e h.content k.content) in
-    let noted = λ (own : IsPlain h.want) (other : IsPlain k.want) (p : BeginsAt d h.content) (q : BeginsAt e k.content). second own k.content (keys d) q (first other h.content [] p start) in
-    subst (λ (hs : List Holding). IsRightAnswer (AreOperands o.operands) (meaning_of o) both hs (map arc_value c.args.news.now) c.args.before c.finish.result) (two_in c.args.held.now h k c.requires.held c.index-held-0.is c.index-held-1.is)
-    (subst (λ (ds : List Changes). IsRightAnswer (AreOperands o.operands) (meaning_of o) both (h ∷ k ∷ []) ds c.args.before c.finish.result) (ap (map arc_value) (two_in c.args.news.now c.index-news-0.result c.index-news-1.result (c.requires.news ∙ c.pair.ensures) c.index-news-0.is c.index-news-1.is))
-    (right_answer d e h k c.args.before c.note_changes-2.new.draft o c.finish.result c.finish.ensures noted))
+    let own = c.plan-plan.ensures in
+    let plan = c.plan-plan.result.now in
+    let h = c.index-held-main.result in
+    let k = c.index-held-partner.result in
+    let d : Changes = arc_value c.index-news-main.result in
+    let e : Changes = arc_value c.index-news-partner.result in
+    let first = rw (c.deref.ensures, c.deref-2.ensures) at c.in_ok-note_main.ensures.noted in
+    let second = rw (c.deref-3.ensures, c.deref-4.ensures) at c.in_ok-note_partner.ensures.noted in
+    let noted : c.note_partner.new.draft ≡ drafted plan h k.content d e =
+    second ∙ ap (λ (n : SetDraft). fold (noted_partner plan h d) n (entries e)) (first ∙ ap (λ (n : SetDraft). fold (noted_main plan k.content e) n (entries d)) c.new-draft.ensures) in
+    let differs : Differs d = subst (λ (x : Changes). Differs x) c.deref.ensures c.in_ok-note_main.ensures.differs in
+    answers c.args.self.now (of_two c.args.self.now own.typed own.pair) plan own.planned c.args.held.now c.requires.held c.args.news.now
+    h k c.index-news-main.result c.index-news-partner.result c.numbers_of-main.result.0 c.numbers_of-main.result.1 c.numbers_of-main.ensures.main c.numbers_of-main.ensures.partner
+    c.index-held-main.is c.index-held-partner.is c.index-news-main.is c.index-news-partner.is
+    c.args.before differs c.finish.result (subst (λ (n : SetDraft). IfSome (answer_of c.finish.result) (λ x. x ≡ finished c.args.before n)) noted c.finish.ensures)
+
+pub returns-clause-steps : goal.returns-clause-steps
+returns-clause-steps g c =
+    let own = c.plan-plan.ensures in
+    let most =
+    within c.args.self.now (of_two c.args.self.now own.typed own.pair) c.plan-plan.result.now own.planned c.args.held.now c.requires.held c.args.news.now
+    c.index-held-main.result c.index-held-partner.result c.index-news-main.result c.index-news-partner.result c.numbers_of-main.result.0 c.numbers_of-main.result.1 c.numbers_of-main.ensures.main c.numbers_of-main.ensures.partner
+    c.index-held-main.is c.index-held-partner.is c.index-news-main.is c.index-news-partner.is (c.requires.news ∙ own.two) in
+    let first = rw c.deref.ensures at c.in_ok-note_main.ensures.steps in
+    let second = rw c.deref-3.ensures at c.in_ok-note_partner.ensures.steps in
+    omega (arith, most, first, second)
+
+pub returns-in_err-note_main-clause-steps : goal.returns-in_err-note_main-clause-steps
+returns-in_err-note_main-clause-steps g c =
+    let own = c.plan-plan.ensures in
+    let most =
+    within c.args.self.now (of_two c.args.self.now own.typed own.pair) c.plan-plan.result.now own.planned c.args.held.now c.requires.held c.args.news.now
+    c.index-held-main.result c.index-held-partner.result c.index-news-main.result c.index-news-partner.result c.numbers_of-main.result.0 c.numbers_of-main.result.1 c.numbers_of-main.ensures.main c.numbers_of-main.ensures.partner
+    c.index-held-main.is c.index-held-partner.is c.index-news-main.is c.index-news-partner.is (c.requires.news ∙ own.two) in
+    let first = rw c.deref.ensures at c.in_err-note_main.ensures.steps in
+    omega (arith, most, first)
+
+pub returns-in_err-note_partner-clause-steps : goal.returns-in_err-note_partner-clause-steps
+returns-in_err-note_partner-clause-steps g c =
+    let own = c.plan-plan.ensures in
+    let most =
+    within c.args.self.now (of_two c.args.self.now own.typed own.pair) c.plan-plan.result.now own.planned c.args.held.now c.requires.held c.args.news.now
+    c.index-held-main.result c.index-held-partner.result c.index-news-main.result c.index-news-partner.result c.numbers_of-main.result.0 c.numbers_of-main.result.1 c.numbers_of-main.ensures.main c.numbers_of-main.ensures.partner
+    c.index-held-main.is c.index-held-partner.is c.index-news-main.is c.index-news-partner.is (c.requires.news ∙ own.two) in
+    let first = rw c.deref.ensures at c.in_ok-note_main.ensures.steps in
+    let second = rw c.deref-3.ensures at c.in_err-note_partner.ensures.steps in
+    omega (arith, most, first, second)
