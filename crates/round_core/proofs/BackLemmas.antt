@@ -10,7 +10,7 @@ use Rattle.std.proofs.lemmas.List.{length-map, get_or-map}
 use Rattle.data_model.specs.Deltas.{Leads}
 use Rattle.point_sets.specs.Changes.{Changes}
 use Rattle.checked_trees.specs.declared.script.CheckedStatement.{CheckedStatement}
-use Rattle.checked_trees.specs.declared.tree.Source.TheVariants.{Result as ResultOf}
+use Rattle.data_set_trees.specs.declared.tree.Source.TheVariants.{Result as ResultOf}
 use Rattle.checked_trees.specs.Scripts.{Script, uses_of}
 use Rattle.operator_meaning.specs.Scripts.{Fails, states}
 use Rattle.release_text.specs.Releases.{Page}

@@ -11,7 +11,7 @@ use Rattle.std.proofs.lemmas.List.{length-set, get_or-set_same, get_or-set_other
 use Rattle.std.proofs.lemmas.List.Elements.{All-weaker, All-append}
 use Rattle.point_sets.specs.DataSets.{DataSet}
 use Rattle.point_sets.specs.Changes.{Changes}
-use Rattle.checked_trees.specs.declared.tree.Source.{Source}
+use Rattle.data_set_trees.specs.declared.tree.Source.{Source}
 use Rattle.checked_trees.specs.Scripts.{Script, sources_of}
 use Rattle.operator_meaning.specs.Scripts.{with_at}
 use Rattle.operator_meaning.proofs.ScriptLemmas.{with_at-same, with_at-other}

@@ -16,8 +16,8 @@ use Rattle.data_model.specs.Deltas.{Leads}
 use Rattle.data_model.proofs.DeltaLemmas.{Leads-empty}
 use Rattle.point_sets.specs.DataSets.{DataSet}
 use Rattle.point_sets.specs.Changes.{Changes}
-use Rattle.checked_trees.specs.declared.tree.Source.{Source}
-use Rattle.checked_trees.specs.declared.tree.Source.TheVariants.{Input}
+use Rattle.data_set_trees.specs.declared.tree.Source.{Source}
+use Rattle.data_set_trees.specs.declared.tree.Source.TheVariants.{Input}
 use Rattle.release_text.specs.Releases.{Page}
 use Rattle.round_journal.specs.Releases.{and_page}
 use Rattle.round_core.proofs.Lists.{get_or_any}

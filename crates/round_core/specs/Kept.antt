@@ -8,7 +8,7 @@ use Rattle.data_model.specs.Deltas.{Leads}
 use Rattle.point_sets.specs.DataSets.{DataSet}
 use Rattle.point_sets.specs.Changes.{Changes}
 use Rattle.checked_trees.specs.declared.script.CheckedStatement.{CheckedStatement}
-use Rattle.checked_trees.specs.declared.tree.Source.{Source}
+use Rattle.data_set_trees.specs.declared.tree.Source.{Source}
 use Rattle.checked_trees.specs.Scripts.{Script, IsChecked, sources_of}
 use Rattle.operator_meaning.specs.Results.{Evaluated}
 use Rattle.operator_meaning.specs.Scripts.{Has, Fails, states}

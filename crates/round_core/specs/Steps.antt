@@ -8,8 +8,8 @@ use Rattle.data_model.specs.Deltas.{Leads}
 use Rattle.point_sets.specs.DataSets.{DataSet}
 use Rattle.point_sets.specs.Changes.{Changes}
 use Rattle.point_sets.specs.declared.revision.Revision.{Revision}
-use Rattle.checked_trees.specs.declared.tree.Source.{Source}
-use Rattle.checked_trees.specs.declared.tree.Source.TheVariants.{Input, Result as ResultOf}
+use Rattle.data_set_trees.specs.declared.tree.Source.{Source}
+use Rattle.data_set_trees.specs.declared.tree.Source.TheVariants.{Input, Result as ResultOf}
 use Rattle.checked_trees.specs.Scripts.{Script, sources_of}
 use Rattle.transform_nodes.specs.declared.work.Settle.TheVariants.{Forget}
 use Rattle.round_journal.specs.Journals.{number, verdict_on, round_need, fault_said}

@@ -6,7 +6,7 @@ ghost use Rattle.round_core.specs.Kept.{NoneWaits};
 ghost use Rattle.round_core.specs.Answers.{told};
 
 use crate::slot::{Slot, Stage};
-use checked_trees::Source;
+use data_set_trees::Source;
 
 /// The most points of the results of all operators of a script together.
 const POINTS_LIMIT: u64 = 6_000_000;

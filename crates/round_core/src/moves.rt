@@ -11,7 +11,8 @@ ghost use Rattle.round_core.specs.Steps.{IsPrepared, IsFirstNews, AreFirstNews, 
 use crate::inputs::InputChange;
 use crate::runs::nothing;
 use crate::slot::{Slot, Stage};
-use checked_trees::{CheckedScript, CheckedStatement, Source};
+use checked_trees::{CheckedScript, CheckedStatement};
+use data_set_trees::Source;
 use point_sets::Delta;
 use release_text::Pages;
 use sqlite_items::Items;

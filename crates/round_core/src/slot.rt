@@ -1,12 +1,12 @@
 // The place of a statement in a production.
 ghost use Rattle.std.specs.Prelude.{◌≡◌, ◌<◌, ◌+◌, ◌++◌, ◌↔◌, ◌||◌, ◌∷◌, [], ℕ, List, IfOk, IfSome, IsSome, IsTrue, OnOk, OnErr, Some, None, true, false, length, map, take, slice_get, slice_index_or};
 ghost use Rattle.std.specs.List.{All, AllZip, Contains};
-ghost use Rattle.checked_trees.specs.declared.tree.Source.{Source};
-ghost use Rattle.checked_trees.specs.declared.tree.Source.TheVariants.{Result as ResultOf};
+ghost use Rattle.data_set_trees.specs.declared.tree.Source.{Source};
+ghost use Rattle.data_set_trees.specs.declared.tree.Source.TheVariants.{Result as ResultOf};
 ghost use Rattle.point_sets.specs.Changes.{Changes};
 ghost use Rattle.round_core.specs.Slots.{settle_by, back_with, is_out, pages_of_stage, HandsOut, HandedOn, Remain, names_it, NamesAt, NamesNone};
 
-use checked_trees::Source;
+use data_set_trees::Source;
 use point_sets::Delta;
 use release_text::Pages;
 use sqlite_items::Items;

@@ -5,8 +5,8 @@ use Rattle.std.proofs.lemmas.List.Elements.{All-weaker}
 use Rattle.vtl_values.specs.Structures.{NamedStructures}
 use Rattle.point_sets.specs.DataSets.{DataSet}
 use Rattle.revision_judge.specs.Judging.{no_points}
-use Rattle.checked_trees.specs.declared.tree.Source.{Source}
-use Rattle.checked_trees.specs.declared.tree.Source.TheVariants.{Input, Result as ResultOf}
+use Rattle.data_set_trees.specs.declared.tree.Source.{Source}
+use Rattle.data_set_trees.specs.declared.tree.Source.TheVariants.{Input, Result as ResultOf}
 use Rattle.checked_trees.specs.Scripts.{Script, IsChecked, names_of}
 use Rattle.operator_meaning.specs.Scripts.{set_in, states, script_wrong}
 use Rattle.operator_meaning.proofs.EmptyLemmas.{script_wrong-empty}

@@ -5,7 +5,7 @@ use Rattle.std.specs.List.{slice_get}
 use Rattle.std.specs.FinMap.{empty}
 use Rattle.point_sets.specs.DataSets.{DataSet}
 use Rattle.checked_trees.specs.declared.script.CheckedStatement.{CheckedStatement}
-use Rattle.checked_trees.specs.declared.tree.Source.TheVariants.{Result as ResultOf}
+use Rattle.data_set_trees.specs.declared.tree.Source.TheVariants.{Result as ResultOf}
 use Rattle.checked_trees.specs.Scripts.{Script}
 use Rattle.operator_meaning.specs.Results.{Evaluated}
 use Rattle.operator_meaning.specs.Scripts.{Has, set_in, states}

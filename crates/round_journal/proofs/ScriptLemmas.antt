@@ -9,8 +9,8 @@ use Rattle.std.proofs.lemmas.List.Elements.{All-nil, All-head, All-tail, All-con
 use Rattle.vtl_values.specs.Structures.{NamedStructures}
 use Rattle.point_sets.specs.DataSets.{DataSet}
 use Rattle.checked_trees.specs.declared.script.CheckedStatement.{CheckedStatement}
-use Rattle.checked_trees.specs.declared.tree.Source.{Source}
-use Rattle.checked_trees.specs.declared.tree.Source.TheVariants.{Input, Result as ResultOf}
+use Rattle.data_set_trees.specs.declared.tree.Source.{Source}
+use Rattle.data_set_trees.specs.declared.tree.Source.TheVariants.{Input, Result as ResultOf}
 use Rattle.checked_trees.specs.Expressions.{expression_of}
 use Rattle.checked_trees.specs.Scripts.{Script, IsChecked, FollowOperands, IsOneOf, names_in, names_of, once_each, sources_of, structure_of_source}
 use Rattle.operator_meaning.specs.Results.{Wrong, Evaluated, result_of}

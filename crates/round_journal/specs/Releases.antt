@@ -2,7 +2,7 @@
 use Rattle.std.specs.Prelude.{◌≡◌, ℕ, ◌+◌, ◌-◌, List, [], ◌∷◌, ◌++◌, Option, Some, None, slice_get}
 use Rattle.point_sets.specs.DataSets.{DataSet}
 use Rattle.checked_trees.specs.declared.script.CheckedStatement.{CheckedStatement}
-use Rattle.checked_trees.specs.declared.tree.Source.TheVariants.{Result as ResultOf}
+use Rattle.data_set_trees.specs.declared.tree.Source.TheVariants.{Result as ResultOf}
 use Rattle.checked_trees.specs.Scripts.{Script}
 use Rattle.release_text.specs.Releases.{Page}
 use Rattle.release_text.specs.declared.release.Release.{Release}

@@ -10,14 +10,14 @@ use Rattle.vtl_values.specs.declared.structure.Component.{Component}
 use Rattle.vtl_values.specs.declared.value.Value.{Value}
 use Rattle.vtl_values.specs.Order.{key_cmp}
 use Rattle.point_sets.specs.DataSets.{DataSet}
-use Rattle.checked_trees.specs.declared.tree.CheckedNode.{CheckedNode}
-use Rattle.checked_trees.specs.declared.tree.CheckedTree.{CheckedTree, fold-roll-CheckedTree}
-use Rattle.checked_trees.specs.declared.tree.CheckedTree.TheOpen.{CheckedTree-F}
-use Rattle.checked_trees.specs.declared.tree.CheckedTree.TheVariants.{Name, rolls-Name}
-use Rattle.checked_trees.specs.declared.tree.Source.{Source}
-use Rattle.checked_trees.specs.declared.tree.Source.TheVariants.{Input, Result as ResultOf}
+use Rattle.data_set_trees.specs.declared.tree.DataSetNode.{DataSetNode}
+use Rattle.data_set_trees.specs.declared.tree.DataSetTree.{DataSetTree, fold-roll-DataSetTree}
+use Rattle.data_set_trees.specs.declared.tree.DataSetTree.TheOpen.{DataSetTree-F}
+use Rattle.data_set_trees.specs.declared.tree.DataSetTree.TheVariants.{Name, rolls-Name}
+use Rattle.data_set_trees.specs.declared.tree.Source.{Source}
+use Rattle.data_set_trees.specs.declared.tree.Source.TheVariants.{Input, Result as ResultOf}
 use Rattle.checked_trees.specs.Operators.{Operator}
-use Rattle.checked_trees.specs.Expressions.{Expression, Expressions, Named, Applied, expression_of, expressions, all_renamed, name_step, node_step, more as operand_and}
+use Rattle.checked_trees.specs.Expressions.{Expression, Expressions, Named, Applied, expression_of, expressions, all_renamed, name_step, node_step, more as operand_and, expression_of_node}
 use Rattle.checked_trees.specs.Scripts.{is_same, names_in, names_in_all, once_each}
 use Rattle.checked_trees.specs.Typing.{HaveStructures}
 use Rattle.operator_meaning.specs.Operators.{meaning_of}
@@ -26,7 +26,7 @@ use Rattle.operator_meaning.proofs.EmptyLemmas.{empties, withouts, sets_of-witho
 use Rattle.operator_meaning.proofs.Items.{All-left, All-right}
 use Rattle.held_index.specs.Holdings.{Holding, holding_of, operand}
 use Rattle.held_index.specs.declared.want.Want.{Want}
-use Rattle.transform_nodes.specs.Building.{expression_of_node, is_among, nothing_held, AllCanBuild, AreAmong, AreBuilt, CanBuild, IsBuilt, IsWellTyped}
+use Rattle.transform_nodes.specs.Building.{is_among, nothing_held, AllCanBuild, AreAmong, AreBuilt, CanBuild, IsBuilt, IsWellTyped}
 use Rattle.transform_nodes.specs.Rules.{operator_of, wanted_of}
 use Rattle.transform_nodes.specs.Trees.{Plain, Plains, Source as Numbered, Operates, more, plains_of, all_expressions, count_of, all_forgotten, Holds, HoldsOn, AllStandOn, AllFit}
 use Rattle.transform_nodes.specs.declared.rule.Rule.{Rule}
@@ -35,16 +35,16 @@ use Rattle.transform_nodes.proofs.WorldLemmas.{same_is, results_of-renamed}
 -- ---- the expressions of checked trees
 
 pub expression_of-Name : (source : Source) → expression_of (Name source) ≡ Named source
-expression_of-Name source = ap expression_of (sym (rolls-Name source)) ∙ fold-roll-CheckedTree (Expression Source) (Expression Source) name_step node_step (CheckedTree-F.Name source)
+expression_of-Name source = ap expression_of (sym (rolls-Name source)) ∙ fold-roll-DataSetTree (Expression Source) (Expression Source) name_step node_step (DataSetTree-F.Name source)
 
 names_in_all-append : (es fs : List (Expression Source)) → names_in_all (expressions (es ++ fs)) ≡ names_in_all (expressions es) ++ names_in_all (expressions fs)
 names_in_all-append [] fs = refl
 names_in_all-append (e ∷ es) fs = ap (λ (ns : List Source). names_in e ++ ns) (names_in_all-append es fs) ∙ sym (append_assoc (names_in e) (names_in_all (expressions es)) (names_in_all (expressions fs)))
 
 -- the names of one tree more
-pub names_in_all-more : (trees : List CheckedTree) (i : ℕ) (tree : CheckedTree) → i < length trees → tree ≡ get_or trees i tree → names_in_all (expressions (map expression_of (take (i + 1) trees))) ≡ names_in_all (expressions (map expression_of (take i trees))) ++ names_in (expression_of tree)
+pub names_in_all-more : (trees : List DataSetTree) (i : ℕ) (tree : DataSetTree) → i < length trees → tree ≡ get_or trees i tree → names_in_all (expressions (map expression_of (take (i + 1) trees))) ≡ names_in_all (expressions (map expression_of (take i trees))) ++ names_in (expression_of tree)
 names_in_all-more trees i tree l is =
-    ap (λ (ts : List CheckedTree). names_in_all (expressions (map expression_of ts))) (take_more trees i tree l ∙ ap (λ (t : CheckedTree). take i trees ++ t ∷ []) (sym is))
+    ap (λ (ts : List DataSetTree). names_in_all (expressions (map expression_of ts))) (take_more trees i tree l ∙ ap (λ (t : DataSetTree). take i trees ++ t ∷ []) (sym is))
     ∙ ap (λ (es : List (Expression Source)). names_in_all (expressions es)) (map-append expression_of (take i trees) (tree ∷ []))
     ∙ names_in_all-append (map expression_of (take i trees)) (expression_of tree ∷ [])
     ∙ ap (λ (ns : List Source). names_in_all (expressions (map expression_of (take i trees))) ++ ns) (append-nil (names_in (expression_of tree)))
@@ -133,34 +133,34 @@ all_among names k d l = among-once (get_or names k d) names (among_at names k d 
 
 -- ---- an operator that is built
 
-built-push : (sources : List Source) (trees : List CheckedTree) (ps : List Plain) (tree : CheckedTree) (p : Plain) → AreBuilt sources trees ps → IsBuilt sources (expression_of tree) p → AreBuilt sources (trees ++ tree ∷ []) (ps ++ p ∷ [])
+built-push : (sources : List Source) (trees : List DataSetTree) (ps : List Plain) (tree : DataSetTree) (p : Plain) → AreBuilt sources trees ps → IsBuilt sources (expression_of tree) p → AreBuilt sources (trees ++ tree ∷ []) (ps ++ p ∷ [])
 built-push sources [] [] tree p h b = (b, tt)
 built-push sources [] (q ∷ ps) tree p h b = absurd h
 built-push sources (t ∷ trees) [] tree p h b = absurd h
 built-push sources (t ∷ trees) (q ∷ ps) tree p h b = (h.0, built-push sources trees ps tree p h.1 b)
 
-pub built-more : (sources : List Source) (trees : List CheckedTree) (i : ℕ) (ps : List Plain) (tree : CheckedTree) (p : Plain) → i < length trees → tree ≡ get_or trees i tree → AreBuilt sources (take i trees) ps → IsBuilt sources (expression_of tree) p → AreBuilt sources (take (i + 1) trees) (ps ++ p ∷ [])
+pub built-more : (sources : List Source) (trees : List DataSetTree) (i : ℕ) (ps : List Plain) (tree : DataSetTree) (p : Plain) → i < length trees → tree ≡ get_or trees i tree → AreBuilt sources (take i trees) ps → IsBuilt sources (expression_of tree) p → AreBuilt sources (take (i + 1) trees) (ps ++ p ∷ [])
 built-more sources trees i ps tree p l is h b =
-    subst (λ (ts : List CheckedTree). AreBuilt sources ts (ps ++ p ∷ [])) (sym (take_more trees i tree l ∙ ap (λ (t : CheckedTree). take i trees ++ t ∷ []) (sym is))) (built-push sources (take i trees) ps tree p h b)
+    subst (λ (ts : List DataSetTree). AreBuilt sources ts (ps ++ p ∷ [])) (sym (take_more trees i tree l ∙ ap (λ (t : DataSetTree). take i trees ++ t ∷ []) (sym is))) (built-push sources (take i trees) ps tree p h b)
 
 -- the operands of a well typed operator are well typed
-typed_operands : (node : CheckedNode) → IsWellTyped (expression_of_node node) → All (λ tree. IsWellTyped (expression_of tree)) node.children
+typed_operands : (node : DataSetNode) → IsWellTyped (expression_of_node node) → All (λ tree. IsWellTyped (expression_of tree)) node.children
 typed_operands node h = from node.children node.operands h.typed.2
   where
-    from : (trees : List CheckedTree) (ts : List (List Component)) → HaveStructures h.structures (expressions (map expression_of trees)) ts → All (λ tree. IsWellTyped (expression_of tree)) trees
+    from : (trees : List DataSetTree) (ts : List (List Component)) → HaveStructures h.structures (expressions (map expression_of trees)) ts → All (λ tree. IsWellTyped (expression_of tree)) trees
     from [] ts typed = All-nil (λ tree. IsWellTyped (expression_of tree))
     from (tree ∷ trees) [] typed = absurd typed
     from (tree ∷ trees) (t ∷ ts) typed = All-cons (λ tree. IsWellTyped (expression_of tree)) tree trees (record { structures = h.structures; structure = t; typed = typed.0 }) (from trees ts typed.1)
 
 -- what they name is among what the operator names
-named_operands : (sources : List Source) (trees : List CheckedTree) → AreAmong sources (names_in_all (expressions (map expression_of trees))) → All (λ tree. AreAmong sources (names_in (expression_of tree))) trees
+named_operands : (sources : List Source) (trees : List DataSetTree) → AreAmong sources (names_in_all (expressions (map expression_of trees))) → All (λ tree. AreAmong sources (names_in (expression_of tree))) trees
 named_operands sources [] named = All-nil (λ tree. AreAmong sources (names_in (expression_of tree)))
 named_operands sources (tree ∷ trees) named = All-cons (λ tree. AreAmong sources (names_in (expression_of tree))) tree trees
     (All-left (λ n. is_among sources n ≡ true) (names_in (expression_of tree)) (names_in_all (expressions (map expression_of trees))) named)
     (named_operands sources trees (All-right (λ n. is_among sources n ≡ true) (names_in (expression_of tree)) (names_in_all (expressions (map expression_of trees))) named))
 
 -- the operands of an operator that can be built can be built
-pub can_build_operands : (sources : List Source) (node : CheckedNode) → CanBuild sources (expression_of_node node) → AllCanBuild sources node.children
+pub can_build_operands : (sources : List Source) (node : DataSetNode) → CanBuild sources (expression_of_node node) → AllCanBuild sources node.children
 can_build_operands sources node can =
     let typed = typed_operands node can.typed in
     let named = named_operands sources node.children can.named in
@@ -173,7 +173,7 @@ record BuiltOperands (sources : List Source) (es : Expressions Source) (ps : Pla
   alone : all_forgotten ps ≡ ps
   stand : AllStandOn ps (λ n. empty)
 
-operands_built : (sources : List Source) (trees : List CheckedTree) (ps : List Plain) → AreBuilt sources trees ps → BuiltOperands sources (expressions (map expression_of trees)) (plains_of ps)
+operands_built : (sources : List Source) (trees : List DataSetTree) (ps : List Plain) → AreBuilt sources trees ps → BuiltOperands sources (expressions (map expression_of trees)) (plains_of ps)
 operands_built sources [] [] h = record { works_out = refl; fit = tt; alone = refl; stand = tt }
 operands_built sources [] (p ∷ ps) h = absurd h
 operands_built sources (t ∷ trees) [] h = absurd h
@@ -191,7 +191,7 @@ operands_built sources (t ∷ trees) (p ∷ ps) h =
       stand = (b.stands, r.stand);
     }
 
-built-count : (sources : List Source) (trees : List CheckedTree) (ps : List Plain) (structures : Source → Option (List Component)) (ts : List (List Component)) → AreBuilt sources trees ps → HaveStructures structures (expressions (map expression_of trees)) ts → count_of (plains_of ps) ≡ length ts
+built-count : (sources : List Source) (trees : List DataSetTree) (ps : List Plain) (structures : Source → Option (List Component)) (ts : List (List Component)) → AreBuilt sources trees ps → HaveStructures structures (expressions (map expression_of trees)) ts → count_of (plains_of ps) ≡ length ts
 built-count sources [] [] structures [] h typed = refl
 built-count sources [] [] structures (t ∷ ts) h typed = absurd typed
 built-count sources [] (p ∷ ps) structures ts h typed = absurd h
@@ -208,11 +208,11 @@ holdings-empty : {A : Type 0} (ts : List A) (ws : List Want) → map (holding_of
 holdings-empty ts [] = refl
 holdings-empty ts (w ∷ ws) = let e = operand-empty w.operand ts in let r = holdings-empty ts ws in (λ i. record { want = w; content = e i } ∷ r i)
 
-pub built-operator : (sources : List Source) (node : CheckedNode) (rule : Rule) (ps : List Plain) (held : List Holding) → IsWellTyped (expression_of_node node) → operator_of rule ≡ record { op = node.op; operands = node.operands; structure = node.structure } → AreBuilt sources node.children ps → held ≡ map nothing_held (wanted_of rule) → IsBuilt sources (expression_of_node node) (Operates rule node.place (plains_of ps) held 0 [] 0)
+pub built-operator : (sources : List Source) (node : DataSetNode) (rule : Rule) (ps : List Plain) (held : List Holding) → IsWellTyped (expression_of_node node) → operator_of rule ≡ record { operator = node.operator; operands = node.operands; structure = node.structure } → AreBuilt sources node.children ps → held ≡ map nothing_held (wanted_of rule) → IsBuilt sources (expression_of_node node) (Operates rule node.place (plains_of ps) held 0 [] 0)
 built-operator sources node rule ps held can is built held_is =
     let b = operands_built sources node.children ps built in
     let w = b.works_out in
-    let o : Operator = record { op = node.op; operands = node.operands; structure = node.structure } in
+    let o : Operator = record { operator = node.operator; operands = node.operands; structure = node.structure } in
     let es = expressions (map expression_of node.children) in
     let results : results_of (λ n. empty) (all_expressions (plains_of ps)) ≡ Ok (withouts node.operands) =
     sym (results_of-renamed (slice_get sources) (λ n. empty) (all_expressions (plains_of ps))) ∙ ap (results_of (λ n. empty)) w ∙ results_of-renamed Some (λ n. empty) es ∙ results_of-empty can.structures es node.operands can.typed.2 in

@@ -10,3 +10,4 @@ pub mod WorldLemmas
 pub mod FinishLemmas
 pub mod BuildLemmas
 pub mod NewNodeLemmas
+pub mod WantLemmas

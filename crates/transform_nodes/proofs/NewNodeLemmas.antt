@@ -7,8 +7,8 @@ use Rattle.std.proofs.lemmas.Bool.{cases_lt}
 use Rattle.std.proofs.lemmas.Option.{slice_get_within}
 use Rattle.point_sets.specs.DataSets.{DataSet}
 use Rattle.checked_trees.specs.declared.script.CheckedStatement.{CheckedStatement}
-use Rattle.checked_trees.specs.declared.tree.Source.{Source}
-use Rattle.checked_trees.specs.declared.tree.Source.TheVariants.{Input, Result as ResultOf}
+use Rattle.data_set_trees.specs.declared.tree.Source.{Source}
+use Rattle.data_set_trees.specs.declared.tree.Source.TheVariants.{Input, Result as ResultOf}
 use Rattle.checked_trees.specs.Expressions.{expression_of, renamed}
 use Rattle.checked_trees.specs.Scripts.{Script, IsChecked, names_in, names_result, once_each, structure_of_source}
 use Rattle.operator_meaning.specs.Results.{without_points}

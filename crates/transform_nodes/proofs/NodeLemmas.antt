@@ -1,7 +1,7 @@
 -- Nodes that stand for the same inputs.
 use Rattle.std.proofs.Common.{◌≡◌, ℕ, suc, List, [], ◌∷◌, length, Option, refl, sym, ◌∙◌, ap, subst, arith, slice_get}
 use Rattle.std.specs.Option.{IsSomeAnd}
-use Rattle.checked_trees.specs.declared.tree.Source.{Source as SourceName}
+use Rattle.data_set_trees.specs.declared.tree.Source.{Source as SourceName}
 use Rattle.checked_trees.specs.Scripts.{Script, sources_of, uses_of}
 use Rattle.operator_meaning.specs.Scripts.{states}
 use Rattle.point_sets.specs.DataSets.{DataSet}

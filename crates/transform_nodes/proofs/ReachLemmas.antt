@@ -16,7 +16,7 @@ use Rattle.data_model.proofs.DeltaLemmas.{Leads-delta_between, Leads-empty, Lead
 use Rattle.point_sets.specs.DataSets.{DataSet}
 use Rattle.point_sets.specs.Changes.{Changes, values_eq}
 use Rattle.point_sets.proofs.Changes.{values_eq-IsEqualityTest}
-use Rattle.checked_trees.specs.declared.tree.Source.{Source as Named}
+use Rattle.data_set_trees.specs.declared.tree.Source.{Source as Named}
 use Rattle.checked_trees.specs.Scripts.{Script}
 use Rattle.operator_meaning.specs.Results.{Evaluated, Wrong, sets_of, results_of}
 use Rattle.held_index.specs.Holdings.{Holding}

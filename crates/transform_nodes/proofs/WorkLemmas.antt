@@ -35,6 +35,11 @@ use Rattle.transform_nodes.specs.declared.operate.Worked.{Worked}
 use Rattle.transform_nodes.specs.declared.rule.Rule.{Rule}
 use Rattle.transform_nodes.proofs.RuleLemmas.{wanted_below}
 
+-- what is held of data sets is what is wanted of them
+pub wants-held : (zs : List DataSet) (ws : List Want) → map (λ h. h.want) (map (holding_of zs) ws) ≡ ws
+wants-held zs [] = refl
+wants-held zs (w ∷ ws) = ap (λ (vs : List Want). w ∷ vs) (wants-held zs ws)
+
 -- ---- patches
 
 pub planned_more : (ws : List Want) (hs : List Holding) (ds : List Changes) (i : ℕ) (w : Want) (h : Holding) → length hs ≡ length ws → i < length ws → take (i + 1) (planned ws hs ds) ≡ take i (planned ws hs ds) ++ record (get_or hs i h) { content = apply (news_of (get_or ws i w).operand ds) (get_or hs i h).content } ∷ []

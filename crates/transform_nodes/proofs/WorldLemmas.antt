@@ -11,8 +11,8 @@ use Rattle.data_model.specs.Deltas.{Leads}
 use Rattle.point_sets.specs.DataSets.{DataSet}
 use Rattle.point_sets.specs.Changes.{Changes}
 use Rattle.checked_trees.specs.declared.script.CheckedStatement.{CheckedStatement}
-use Rattle.checked_trees.specs.declared.tree.Source.{Source}
-use Rattle.checked_trees.specs.declared.tree.Source.TheVariants.{Input, Result as ResultOf}
+use Rattle.data_set_trees.specs.declared.tree.Source.{Source}
+use Rattle.data_set_trees.specs.declared.tree.Source.TheVariants.{Input, Result as ResultOf}
 use Rattle.checked_trees.specs.Expressions.{Expression, Expressions, Named, Applied, expression_of, renamed, all_renamed, none as no_operand, more as operand_and}
 use Rattle.checked_trees.specs.Scripts.{Script, IsChecked, is_same, names_in, names_of, once_each, sources_of, structure_of_source}
 use Rattle.checked_trees.specs.Typing.{HasStructure, HaveStructures}

@@ -1,12 +1,11 @@
 -- How nodes are built.
-use Rattle.std.specs.Prelude.{◌≡◌, ◌<◌, Bool, true, List, map, length, slice_get, slice_index_or, Option, Some}
+use Rattle.std.specs.Prelude.{◌≡◌, ◌<◌, Bool, true, List, length, slice_get, slice_index_or, Option, Some}
 use Rattle.std.specs.FinMap.{empty}
 use Rattle.std.specs.List.{All, AllZip, list_any}
 use Rattle.vtl_values.specs.declared.structure.Component.{Component}
-use Rattle.checked_trees.specs.declared.tree.CheckedNode.{CheckedNode}
-use Rattle.checked_trees.specs.declared.tree.CheckedTree.{CheckedTree}
-use Rattle.checked_trees.specs.declared.tree.Source.{Source}
-use Rattle.checked_trees.specs.Expressions.{Expression, Applied, expression_of, expressions, renamed}
+use Rattle.data_set_trees.specs.declared.tree.DataSetTree.{DataSetTree}
+use Rattle.data_set_trees.specs.declared.tree.Source.{Source}
+use Rattle.checked_trees.specs.Expressions.{Expression, expression_of, renamed}
 use Rattle.checked_trees.specs.Scripts.{is_same, names_in}
 use Rattle.checked_trees.specs.Typing.{HasStructure}
 use Rattle.held_index.specs.Holdings.{Holding, FitsStructure}
@@ -16,10 +15,6 @@ use Rattle.transform_nodes.specs.Trees.{Plain, expression, forgotten, IsFit, Sta
 -- what is held of an operand without points
 abbrev pub nothing_held : Want → Holding
 nothing_held w = record { want = w; content = empty }
-
--- the expression of an operator of a checked tree
-abbrev pub expression_of_node : CheckedNode → Expression Source
-expression_of_node n = Applied (record { op = n.op; operands = n.operands; structure = n.structure }) n.place (expressions (map expression_of n.children))
 
 -- whether the name is one of the sources
 abbrev pub is_among : List Source → Source → Bool
@@ -47,10 +42,10 @@ pub record IsBuilt (sources : List Source) (e : Expression Source) (p : Plain) :
   pub alone : forgotten p ≡ p
   pub stands : StandsOn p (λ n. empty)
 
-abbrev pub AllCanBuild : List Source → List CheckedTree → Type 0
+abbrev pub AllCanBuild : List Source → List DataSetTree → Type 0
 AllCanBuild sources trees = All (λ tree. CanBuild sources (expression_of tree)) trees
 
-abbrev pub AreBuilt : List Source → List CheckedTree → List Plain → Type 0
+abbrev pub AreBuilt : List Source → List DataSetTree → List Plain → Type 0
 AreBuilt sources trees ps = AllZip (λ tree p. IsBuilt sources (expression_of tree) p) trees ps
 
 -- a want is of an operand that there is, and names components of that

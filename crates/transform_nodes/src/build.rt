@@ -2,16 +2,17 @@
 ghost use Rattle.std.specs.Prelude.{◌≡◌, ◌++◌, ◌∷◌, [], IfOk, OnOk, Some, count_by, is_some, map, slice_get, if◌then◌else◌};
 ghost use Rattle.std.specs.FinMap.{empty};
 ghost use Rattle.std.specs.Option.{IfSome};
-ghost use Rattle.checked_trees.specs.Expressions.{expression_of, expressions};
+ghost use Rattle.checked_trees.specs.Expressions.{expression_of, expressions, expression_of_node};
 ghost use Rattle.checked_trees.specs.Scripts as scripts;
 ghost use Rattle.checked_trees.specs.Scripts.{names_in, names_in_all, names_result};
-ghost use Rattle.transform_nodes.specs.Building.{expression_of_node, is_among, nothing_held, AllCanBuild, AreBuilt, AreWanted, CanBuild, IsBuilt};
+ghost use Rattle.transform_nodes.specs.Building.{is_among, nothing_held, AllCanBuild, AreBuilt, AreWanted, CanBuild, IsBuilt};
 ghost use Rattle.transform_nodes.specs.Nodes.{published};
 ghost use Rattle.transform_nodes.specs.Trees.{plain, plain_tree, plains_of, Operates};
 
 use crate::node::{Child, OpTree};
 use crate::rule::Rule;
-use checked_trees::{CheckedNode, CheckedStatement, CheckedTree, Source};
+use checked_trees::CheckedStatement;
+use data_set_trees::{DataSetNode, DataSetTree, Source};
 use held_index::{DeltaRule, Held, Want};
 use release_text::Pages;
 use std::alloc::{AllocError, Global};
@@ -19,20 +20,20 @@ use vtl_values::{Place, Structure};
 
 /// Adds what a tree names, from the first name to the last.
 #[cycle(names)]
-fn push_names(names: &mut Vec<Source>, tree: &CheckedTree) -> Result<(), AllocError>
+fn push_names(names: &mut Vec<Source>, tree: &DataSetTree) -> Result<(), AllocError>
     ensures { OnOk result (names.new.items ≡ names.old.items ++ names_in (expression_of tree.now)) }
 {
     match tree {
-        CheckedTree::Name(source) => {
+        DataSetTree::Name(source) => {
             names.push(*source)?;
             Ok(())
         }
-        CheckedTree::Op(node) => push_all_names(names, node.children.as_slice()),
+        DataSetTree::Operator(node) => push_all_names(names, node.children.as_slice()),
     }
 }
 
 #[cycle(names)]
-fn push_all_names(names: &mut Vec<Source>, trees: &[CheckedTree]) -> Result<(), AllocError>
+fn push_all_names(names: &mut Vec<Source>, trees: &[DataSetTree]) -> Result<(), AllocError>
     ensures { OnOk result (names.new.items ≡ names.old.items ++ names_in_all (expressions (map expression_of trees.now))) }
 {
     for tree in trees {
@@ -88,7 +89,7 @@ fn once_each(alloc: Global, names: &[Source]) -> Result<Vec<Source>, AllocError>
 }
 
 /// What a tree names, each once.
-pub(crate) fn sources_of(alloc: Global, tree: &CheckedTree) -> Result<Vec<Source>, AllocError>
+pub(crate) fn sources_of(alloc: Global, tree: &DataSetTree) -> Result<Vec<Source>, AllocError>
     ensures { IfOk result (λ sources. sources.items ≡ scripts.once_each (names_in (expression_of tree.now))) }
 {
     let mut names: Vec<Source> = Vec::new(alloc);
@@ -142,23 +143,23 @@ fn nothing_held_of(
 #[cycle(build)]
 pub(crate) fn child_of(
     alloc: Global,
-    tree: &CheckedTree,
+    tree: &DataSetTree,
     sources: &[Source],
 ) -> Result<Child, AllocError>
     requires { CanBuild sources.now (expression_of tree.now) }
     ensures { IfOk result (λ child. IsBuilt sources.now (expression_of tree.now) (plain child)) }
 {
     match tree {
-        CheckedTree::Name(source) => match number_of(sources, *source) {
+        DataSetTree::Name(source) => match number_of(sources, *source) {
             Some(number) => Ok(Child::Name(number)),
             None => unreachable!(),
         },
-        CheckedTree::Op(node) => Ok(Child::Tree(tree_of(alloc, node, sources)?)),
+        DataSetTree::Operator(node) => Ok(Child::Tree(tree_of(alloc, node, sources)?)),
     }
 }
 
 #[cycle(build)]
-fn tree_of(alloc: Global, node: &CheckedNode, sources: &[Source]) -> Result<OpTree, AllocError>
+fn tree_of(alloc: Global, node: &DataSetNode, sources: &[Source]) -> Result<OpTree, AllocError>
     requires { CanBuild sources.now (expression_of_node node.now) }
     ensures { IfOk result (λ tree. IsBuilt sources.now (expression_of_node node.now) (plain_tree tree)) }
 {
@@ -192,7 +193,7 @@ fn new_tree(
 #[cycle(build)]
 fn children_of(
     alloc: Global,
-    trees: &[CheckedTree],
+    trees: &[DataSetTree],
     sources: &[Source],
 ) -> Result<Vec<Child>, AllocError>
     requires { AllCanBuild sources.now trees.now }

@@ -1,8 +1,9 @@
 // The rule of any operator.
 ghost use Rattle.std.specs.Prelude.{◌≡◌, IfOk};
 
-use checked_trees::{CheckedNode, CheckedOp};
+use clause_ops::ClauseRule;
 use data_model::steps::Steps;
+use data_set_trees::{DataSetNode, DataSetOperator};
 use held_index::{DeltaRule, Held, Stop, Want};
 use pair_ops::PairRule;
 use point_sets::Delta;
@@ -15,28 +16,25 @@ use vtl_values::Structure;
 /// The rule of an operator, by its family.
 #[derive(Drop)]
 pub enum Rule {
+    Clause(ClauseRule),
     Pair(PairRule),
 }
 
 impl Rule {
-    ghost use Rattle.checked_trees.specs.Operators.{IsTyped};
+    ghost use Rattle.checked_trees.specs.Operators.{an_operator, IsTyped};
     ghost use Rattle.transform_nodes.specs.Rules.{operator_of};
 
     /// The rule of a node's operator.
-    pub fn of(alloc: Global, node: &CheckedNode) -> Result<Rule, AllocError>
-        requires { IsTyped (record { op = node.now.op; operands = node.now.operands; structure = node.now.structure }) }
-        ensures { IfOk result (λ rule. operator_of rule ≡ record { op = node.now.op; operands = node.now.operands; structure = node.now.structure }) }
+    pub fn of(alloc: Global, node: &DataSetNode) -> Result<Rule, AllocError>
+        requires { IsTyped (an_operator node.now.operator node.now.operands node.now.structure) }
+        ensures { IfOk result (λ rule. operator_of rule ≡ an_operator node.now.operator node.now.operands node.now.structure) }
     {
-        match node.op {
-            CheckedOp::Pair(_) => Ok(Rule::Pair(PairRule::of(alloc, node)?)),
-        }
-    }
-
-    fn pair(&self) -> &PairRule
-        ensures { result.now ≡ operator_of self.now }
-    {
-        match self {
-            Rule::Pair(rule) => rule,
+        match node.operator.get() {
+            DataSetOperator::Clause(_) => Ok(Rule::Clause(ClauseRule::of(alloc, node)?)),
+            DataSetOperator::Pair { .. } => Ok(Rule::Pair(PairRule::of(alloc, node)?)),
+            DataSetOperator::Choice { .. } => unreachable!(),
+            DataSetOperator::ExistsIn { .. } => unreachable!(),
+            DataSetOperator::Set(_) => unreachable!(),
         }
     }
 }
@@ -63,12 +61,14 @@ impl DeltaRule for Rule {
 
     fn wants(&self) -> &[Want] {
         match self {
+            Rule::Clause(rule) => rule.wants(),
             Rule::Pair(rule) => rule.wants(),
         }
     }
 
     fn result(&self) -> &Structure {
         match self {
+            Rule::Clause(rule) => rule.result(),
             Rule::Pair(rule) => rule.result(),
         }
     }
@@ -82,6 +82,9 @@ impl DeltaRule for Rule {
         news: &[Arc<Delta>],
         steps: &mut Steps<L>,
     ) -> Result<Delta, Stop> {
-        self.pair().delta(rt, alloc, before, held, news, steps)
+        match self {
+            Rule::Clause(rule) => rule.delta(rt, alloc, before, held, news, steps),
+            Rule::Pair(rule) => rule.delta(rt, alloc, before, held, news, steps),
+        }
     }
 }

@@ -1,5 +1,5 @@
 use Rattle.std.proofs.Common.{ℕ, ◌<◌, get_or}
-use Rattle.checked_trees.specs.declared.tree.Source.{Source}
+use Rattle.data_set_trees.specs.declared.tree.Source.{Source}
 use Rattle.round_core.specs.Slots.{ThereIn}
 use Rattle.round_core.proofs.ends.all_there.Given as goal
 

@@ -1,5 +1,5 @@
 use Rattle.std.proofs.Common.{sym, subst, ◌∙◌}
-use Rattle.checked_trees.specs.declared.tree.Source.{Source}
+use Rattle.data_set_trees.specs.declared.tree.Source.{Source}
 use Rattle.round_core.specs.Steps.{IsFirstNews}
 use Rattle.round_core.proofs.StepLemmas.{first_none}
 use Rattle.round_core.proofs.moves.first_change.Goals as goal

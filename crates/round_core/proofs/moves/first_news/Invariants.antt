@@ -2,7 +2,7 @@ use Rattle.std.proofs.Common.{◌≡◌, ℕ, ◌<◌, length, get_or}
 use Rattle.std.specs.declared.sync.Arc.{Arc}
 use Rattle.std.specs.declared.alloc.Global.{Global}
 use Rattle.point_sets.specs.Changes.{Changes}
-use Rattle.checked_trees.specs.declared.tree.Source.{Source}
+use Rattle.data_set_trees.specs.declared.tree.Source.{Source}
 use Rattle.round_core.specs.Steps.{IsFirstNews}
 use Rattle.round_core.proofs.moves.first_news.Given as goal
 

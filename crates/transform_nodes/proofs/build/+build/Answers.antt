@@ -1,13 +1,17 @@
 use Rattle.std.proofs.Common.{◌≡◌, ◌∷◌, ◌+◌, [], map, take, List, sym, ◌∙◌, ap, subst, rules}
 use Rattle.std.proofs.lemmas.List.{map-append}
 use denote.Param.Weighed.{most}
-use Rattle.checked_trees.proofs.tree.CheckedTree.TheLaws.{the_size}
-use Rattle.checked_trees.specs.declared.tree.CheckedTree.TheViews.{the_lemmas, size_is-CheckedNode}
-use Rattle.checked_trees.specs.declared.tree.Source.{Source}
-use Rattle.checked_trees.specs.declared.tree.CheckedTree.{CheckedTree}
-use Rattle.checked_trees.specs.Expressions.{Expression, Named, expression_of}
-use Rattle.transform_nodes.specs.Rules.{wanted_of}
-use Rattle.transform_nodes.specs.Building.{expression_of_node, nothing_held, AllCanBuild, AreBuilt, IsBuilt}
+use Rattle.data_set_trees.proofs.tree.DataSetTree.TheLaws.{the_size}
+use Rattle.data_set_trees.specs.declared.tree.DataSetTree.TheViews.{the_lemmas, size_is-DataSetNode}
+use Rattle.data_set_trees.specs.declared.tree.Source.{Source}
+use Rattle.data_set_trees.specs.declared.tree.DataSetTree.{DataSetTree}
+use Rattle.checked_trees.specs.Expressions.{Expression, Named, expression_of, expression_of_node}
+use Rattle.vtl_values.specs.declared.structure.Component.{Component}
+use Rattle.checked_trees.specs.Operators.{an_operator, Operator, IsTyped}
+use Rattle.held_index.specs.declared.want.Want.{Want}
+use Rattle.transform_nodes.specs.Rules.{operator_of, wanted_of}
+use Rattle.transform_nodes.proofs.WantLemmas.{rule-wanted}
+use Rattle.transform_nodes.specs.Building.{nothing_held, AllCanBuild, AreBuilt, AreWanted, IsBuilt}
 use Rattle.transform_nodes.specs.Trees.{Plain, plain}
 use Rattle.transform_nodes.specs.declared.node.Child.TheVariants.{Name}
 use Rattle.transform_nodes.proofs.PlainLemmas.{plain-Name}
@@ -25,7 +29,19 @@ pub tree_of-children_of-requires : goal.tree_of-children_of-requires
 tree_of-children_of-requires t c =
     let d = c.decreases in
     let m : most the_size c.as_slice.result.now ≡ most the_size c.args.node.now.children = ap (most the_size) c.as_slice.ensures in
-    (search (rules, the_lemmas, d, m, size_is-CheckedNode), subst (λ (trees : List CheckedTree). AllCanBuild c.args.sources.now trees) (sym c.as_slice.ensures) (can_build_operands c.args.sources.now c.args.node.now c.requires))
+    (search (rules, the_lemmas, d, m, size_is-DataSetNode), subst (λ (trees : List DataSetTree). AllCanBuild c.args.sources.now trees) (sym c.as_slice.ensures) (can_build_operands c.args.sources.now c.args.node.now c.requires))
+
+-- what the rule wants fits the operands of the node
+pub tree_of-nothing_held_of-requires : goal.tree_of-nothing_held_of-requires
+tree_of-nothing_held_of-requires t c =
+    let node = c.args.node.now in
+    let o : Operator = an_operator node.operator node.operands node.structure in
+    let typed : IsTyped o = c.requires.typed.typed.1 in
+    let rule = c.in_ok-rule.rule in
+    let is : operator_of rule ≡ o = c.in_ok-rule.ensures in
+    let wanted = rule-wanted rule (subst (λ (q : Operator). IsTyped q) (sym is) typed) in
+    subst (λ (ws : List Want). AreWanted ws c.as_slice-2.result.now) (sym c.wants.ensures)
+    (subst (λ (ss : List (List Component)). AreWanted (wanted_of rule) ss) (ap (λ (q : Operator). q.operands) is ∙ sym c.as_slice-2.ensures) wanted)
 
 pub tree_of-returns : goal.tree_of-returns
 tree_of-returns t c =
@@ -34,7 +50,7 @@ tree_of-returns t c =
     let rule = c.in_ok-rule.rule in
     let ps = map plain c.in_ok-children.children.items in
     let held = c.in_ok-held.held.items in
-    let built : AreBuilt sources node.children ps = subst (λ (trees : List CheckedTree). AreBuilt sources trees ps) c.as_slice.ensures c.in_ok-children.ensures in
+    let built : AreBuilt sources node.children ps = subst (λ (trees : List DataSetTree). AreBuilt sources trees ps) c.as_slice.ensures c.in_ok-children.ensures in
     let held_are : held ≡ map nothing_held (wanted_of rule) = c.in_ok-held.ensures ∙ ap (map nothing_held) c.wants.ensures in
     subst (λ (p : Plain). IsBuilt sources (expression_of_node node) p) (sym c.new_tree.ensures) (built-operator sources node rule ps held c.requires.typed c.in_ok-rule.ensures built held_are)
 

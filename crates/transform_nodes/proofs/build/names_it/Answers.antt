@@ -1,6 +1,6 @@
 use Rattle.std.proofs.Common.{◌∙◌, ◌++◌, sym, ap, List}
-use Rattle.checked_trees.specs.declared.tree.Source.{Source}
-use Rattle.checked_trees.specs.declared.tree.Source.TheVariants.{Result as ResultOf}
+use Rattle.data_set_trees.specs.declared.tree.Source.{Source}
+use Rattle.data_set_trees.specs.declared.tree.Source.TheVariants.{Result as ResultOf}
 use Rattle.checked_trees.specs.Expressions.{expression_of}
 use Rattle.checked_trees.specs.Scripts.{is_same, names_in}
 use Rattle.transform_nodes.specs.Building.{is_among}

@@ -1,12 +1,20 @@
-use Rattle.std.proofs.Common.{◌<◌, length, map, ◌∙◌, ap, subst, sym, arith, List}
+use Rattle.std.proofs.Common.{◌≡◌, ◌<◌, length, map, ◌∙◌, ap, subst, sym, arith, List}
 use Rattle.std.specs.List.{All}
 use Rattle.std.proofs.lemmas.List.{length-map}
 use Rattle.std.specs.Arc.{arc_value}
 use Rattle.held_index.specs.declared.want.Want.{Want}
+use Rattle.held_index.specs.Holdings.{Holding}
+use Rattle.transform_nodes.specs.Rules.{wanted_of}
 use Rattle.transform_nodes.specs.Runs.{planned, CanPlan}
 use Rattle.transform_nodes.proofs.RuleLemmas.{wanted_below}
-use Rattle.transform_nodes.proofs.WorkLemmas.{asked, can_plan, work_right, work_stop}
+use Rattle.transform_nodes.proofs.WorkLemmas.{wants-held, asked, can_plan, work_right, work_stop}
 use Rattle.transform_nodes.proofs.operate.work.Goals as goal
+
+-- what is held is what the rule wants of the operands that the work stands for
+pub delta-requires-clause-held : goal.delta-requires-clause-held
+delta-requires-clause-held g c =
+    let can = c.requires.can in
+    subst (λ (hs : List Holding). map (λ h. h.want) hs ≡ wanted_of c.args.rule.now) can.2.holds.sets (wants-held can.0 (wanted_of c.args.rule.now))
 
 pub plan_all-requires-clause-below : goal.plan_all-requires-clause-below
 plan_all-requires-clause-below g c =

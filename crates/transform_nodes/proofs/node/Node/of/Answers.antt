@@ -2,7 +2,7 @@ use Rattle.std.proofs.Common.{◌≡◌, ◌<◌, Some, None, slice_get, length,
 use Rattle.std.specs.Prelude.{count_by}
 use Rattle.std.proofs.lemmas.Option.{slice_get_read}
 use Rattle.checked_trees.specs.declared.script.CheckedStatement.{CheckedStatement}
-use Rattle.checked_trees.specs.declared.tree.Source.{Source}
+use Rattle.data_set_trees.specs.declared.tree.Source.{Source}
 use Rattle.checked_trees.specs.Expressions.{expression_of}
 use Rattle.checked_trees.specs.Scripts.{names_result}
 use Rattle.transform_nodes.specs.Building.{CanBuild, IsBuilt}

@@ -1,0 +1,52 @@
+-- Which operators are built, and which scripts (docs/language.md, "What runs").
+use Rattle.std.specs.Prelude.{Bool, true, false, ◌&&◌, ⊤}
+use Rattle.std.specs.List.{All, list_all}
+use Rattle.vtl_values.specs.Structures.{IsStructure}
+use Rattle.data_set_trees.specs.declared.tree.DataSetOperator.{DataSetOperator}
+use Rattle.data_set_trees.specs.declared.tree.DataSetOperator.TheVariants.{Clause, Pair}
+use Rattle.data_set_trees.specs.declared.tree.DataSetTree.{DataSetTree}
+use Rattle.checked_trees.specs.declared.script.CheckedStatement.{CheckedStatement}
+use Rattle.checked_trees.specs.Expressions.{Expression, Expressions, Named, Applied, none, more, expression_of}
+use Rattle.checked_trees.specs.Scripts.{Script}
+
+-- clauses, and scalar operators on two data sets
+abbrev pub is_built : DataSetOperator → Bool
+is_built (Clause clause) = true
+is_built (Pair items) = true
+is_built _ = false
+
+abbrev mutual
+  -- all operators of an expression are built
+  pub all_built : {N : Type 0} → Expression N → Bool
+  all_built (Named n) = true
+  all_built (Applied o place es) = is_built o.operator && each_all_built es
+
+  pub each_all_built : {N : Type 0} → Expressions N → Bool
+  each_all_built none = true
+  each_all_built (more e es) = all_built e && each_all_built es
+
+abbrev pub is_tree_built : DataSetTree → Bool
+is_tree_built tree = all_built (expression_of tree)
+
+abbrev pub is_statement_built : CheckedStatement → Bool
+is_statement_built statement = is_tree_built statement.tree
+
+-- all operators of a script are built
+abbrev pub is_script_built : Script → Bool
+is_script_built s = list_all is_statement_built s.statements
+
+abbrev mutual
+  -- the operands and the results of its operators have structures
+  pub AreStructured : {N : Type 0} → Expression N → Type 0
+  AreStructured (Named n) = ⊤
+  AreStructured (Applied o place es) = All IsStructure o.operands × IsStructure o.structure × EachStructured es
+
+  pub EachStructured : {N : Type 0} → Expressions N → Type 0
+  EachStructured none = ⊤
+  EachStructured (more e es) = AreStructured e × EachStructured es
+
+abbrev pub IsTreeStructured : DataSetTree → Type 0
+IsTreeStructured tree = AreStructured (expression_of tree)
+
+abbrev pub IsStatementStructured : CheckedStatement → Type 0
+IsStatementStructured statement = IsTreeStructured statement.tree

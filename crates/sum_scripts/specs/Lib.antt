@@ -1,4 +1,0 @@
-pub mod Names
-pub mod Sums
-pub mod Scripts
-pub mod Sound
