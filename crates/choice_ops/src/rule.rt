@@ -1,0 +1,120 @@
+// The rule of a conditional on data sets.
+ghost use Rattle.std.specs.Prelude.{◌≡◌, IfOk};
+ghost use Rattle.checked_trees.specs.Operators.{an_operator};
+ghost use Rattle.choice_meaning.specs.Typed.{IsTypedChoice};
+ghost use Rattle.choice_ops.specs.Plans.{choice_in};
+ghost use Rattle.choice_ops.specs.Rules as rules;
+
+use crate::notes::noted;
+use crate::plan::ChoicePlan;
+use data_model::steps::Steps;
+use data_set_trees::DataSetNode;
+use held_index::{DeltaRule, Held, Stop, Want};
+use point_sets::Delta;
+use sqlite_items::Items;
+use std::alloc::{AllocError, Global};
+use std::marker::Model;
+use std::sync::Arc;
+use std::sync::ledger::Ledger;
+use std::thread::Threads;
+use vtl_values::Structure;
+
+/// The rule of a conditional.
+#[derive(Drop)]
+pub struct ChoiceRule {
+    plan: ChoicePlan,
+    wants: Items<Want>,
+}
+
+impl Model for ChoiceRule {
+    ghost use Rattle.checked_trees.specs.Operators.{operator_coded, Operator};
+    ghost use Rattle.choice_ops.specs.Rules.{IsRule};
+
+    ghost Value = { Operator };
+
+    ghost coded = { operator_coded };
+
+    ghost view = { λ r. r.plan };
+
+    ghost invariant = { λ r. IsRule r.plan r.wants };
+}
+
+fn whole(alloc: Global, operand: u64) -> Want
+    ensures { result ≡ rules.whole operand }
+{
+    Want {
+        operand,
+        part: Items::from_vec(Vec::new(alloc)),
+        order: Items::from_vec(Vec::new(alloc)),
+        sums: Items::from_vec(Vec::new(alloc)),
+    }
+}
+
+/// All operands of these structures, whole.
+fn all_whole(alloc: Global, operands: &[Structure]) -> Result<Items<Want>, AllocError>
+    ensures { IfOk result (λ wants. wants ≡ rules.all_whole 0 operands.now) }
+{
+    let mut wants = Items::new(alloc);
+    for (number, _) in operands.iter().enumerate() {
+        wants.push(whole(alloc, number as u64))?;
+    }
+    Ok(wants)
+}
+
+impl ChoiceRule {
+    /// The rule of a node's operator, which is a conditional.
+    pub fn of(alloc: Global, node: &DataSetNode) -> Result<ChoiceRule, AllocError>
+        requires typed { IsTypedChoice (choice_in (an_operator node.now.operator node.now.operands node.now.structure)) }
+        ensures { IfOk result (λ rule. rule ≡ an_operator node.now.operator node.now.operands node.now.structure) }
+    {
+        Ok(ChoiceRule {
+            plan: ChoicePlan::of(alloc, node)?,
+            wants: all_whole(alloc, node.operands.as_slice())?,
+        })
+    }
+}
+
+impl DeltaRule for ChoiceRule {
+    ghost use Rattle.std.specs.Prelude.{length};
+    ghost use Rattle.std.specs.List.{AllZip};
+    ghost use Rattle.structured_sets.specs.Fitting.{IsBoundedSetOf};
+    ghost use Rattle.choice_meaning.specs.Choices.{choice_meaning};
+    ghost use Rattle.choice_ops.specs.Plans.{choice_in};
+    ghost use Rattle.choice_ops.specs.Reach.{choice_reach};
+    ghost use Rattle.choice_ops.specs.ReachLaws.{no_reach};
+    ghost use Rattle.choice_ops.specs.Rules.{wanted_of};
+
+    ghost arity = { λ r. length r.operands };
+
+    ghost admits = { λ r. AllZip IsBoundedSetOf r.operands };
+
+    ghost meaning = { λ r. choice_meaning (choice_in r) };
+
+    ghost wanted = { wanted_of };
+
+    ghost structure = { λ r. r.structure };
+
+    ghost reach = { λ r. choice_reach r.operands };
+
+    ghost rests = { λ r. no_reach r.operands };
+
+    fn wants(&self) -> &[Want] {
+        self.wants.as_slice()
+    }
+
+    fn result(&self) -> &Structure {
+        self.plan.structure()
+    }
+
+    fn delta<R: Threads + Sync, L: Ledger>(
+        &self,
+        _rt: &R,
+        alloc: Global,
+        before: u64,
+        held: &[Held],
+        news: &[Arc<Delta>],
+        steps: &mut Steps<L>,
+    ) -> Result<Delta, Stop> {
+        noted(alloc, &self.plan, held, news, steps)?.finish(alloc, before)
+    }
+}

@@ -1,0 +1,4 @@
+pub mod Agreed
+pub mod Told
+pub mod Fits
+pub mod Worked

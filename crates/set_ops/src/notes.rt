@@ -1,0 +1,197 @@
+// What changes of the operands make of the result.
+ghost use Rattle.std.specs.Prelude.{◌≡◌, ◌+◌, ◌*◌, ◌≤◌, ◌++◌, All, map, length, IfOk, OnOk};
+ghost use Rattle.std.specs.Arc.{arc_value};
+ghost use Rattle.std.specs.Option.{option_copied};
+ghost use Rattle.std.specs.FinMap as finmap;
+ghost use Rattle.data_model.specs.Deltas.{apply, after, Differs};
+ghost use Rattle.point_sets.specs.Changes.{values_of};
+ghost use Rattle.held_index.specs.Holdings.{IsPlain};
+ghost use Rattle.held_index.specs.Reach.{changes_in};
+ghost use Rattle.held_index.specs.Rules.{after_news};
+ghost use Rattle.clause_meaning.specs.Clauses.{values_at};
+ghost use Rattle.set_ops.specs.Readings.{own_points};
+ghost use Rattle.set_ops.specs.Noted as meant;
+ghost use Rattle.set_ops.specs.Noted.{AllPlain, IsNoted, contents, keys_read, all_keys_read};
+
+use crate::chosen::chosen;
+use crate::reading::Reading;
+use data_model::steps::Steps;
+use data_set_trees::SetOperation;
+use held_index::{Draft, Held};
+use point_sets::{Change, Delta, Key, Point};
+use sqlite_items::Items;
+use std::alloc::{AllocError, Global};
+use std::sync::Arc;
+use std::sync::ledger::Ledger;
+
+/// The point that a key has after a delta, where the one that it had is given.
+fn point_after<'a>(
+    delta: &'a Delta,
+    key: &Key,
+    before: Option<&'a Arc<Point>>,
+) -> Option<&'a Arc<Point>>
+    ensures { values_of (option_copied result) ≡ after (finmap.get delta.now key.now) (values_of (option_copied before.entry)) }
+{
+    let changes = delta.changes();
+    match changes.binary_search_by(|change| change.key.cmp(key)) {
+        Ok(place) => changes[place].new.as_ref(),
+        Err(_) => before,
+    }
+}
+
+/// The point that may be there, shared.
+fn shared(point: Option<&Arc<Point>>) -> Result<Option<Arc<Point>>, AllocError>
+    ensures { IfOk result (λ shared. values_of shared ≡ values_of (option_copied point.entry)) }
+{
+    match point {
+        Some(point) => Ok(Some(point.clone()?)),
+        None => Ok(None),
+    }
+}
+
+/// What an operand has at a key of the result, before its news and after them.
+#[derive(Drop)]
+struct Seen {
+    before: Option<Arc<Point>>,
+    after: Option<Arc<Point>>,
+}
+
+/// Looks an operand up, once.
+fn look<L: Ledger>(
+    alloc: Global,
+    reading: &Reading,
+    held: &Held,
+    news: &Delta,
+    key: &Key,
+    steps: &mut Steps<L>,
+) -> Result<Seen, AllocError>
+    ensures before { IfOk result (λ seen. IsPlain held.now.want → values_of seen.before ≡ finmap.get held.now.content (values_at reading.now.own key.now)) }
+    ensures after { IfOk result (λ seen. IsPlain held.now.want → values_of seen.after ≡ finmap.get (apply news.now held.now.content) (values_at reading.now.own key.now)) }
+    ensures steps { steps.new ≤ steps.old + 2 }
+{
+    let own = reading.own.put_key(alloc, key)?;
+    let at = Point {
+        key: own,
+        rest: Items::new(alloc),
+    };
+    let was = held.get(&at, steps);
+    let comes = point_after(news, &at.key, was);
+    let before = shared(was)?;
+    let after = shared(comes)?;
+    Ok(Seen { before, after })
+}
+
+/// What all operands have at a key of the result, before the news and after them.
+#[derive(Drop)]
+struct Points {
+    before: Vec<Option<Arc<Point>>>,
+    after: Vec<Option<Arc<Point>>>,
+}
+
+/// Looks each operand up, once.
+fn look_all<L: Ledger>(
+    alloc: Global,
+    readings: &[Reading],
+    held: &[Held],
+    news: &[Arc<Delta>],
+    key: &Key,
+    steps: &mut Steps<L>,
+) -> Result<Points, AllocError>
+    requires held { length held.now ≡ length readings.now }
+    requires news { length news.now ≡ length readings.now }
+    ensures before { IfOk result (λ points. AllPlain held.now → map values_of points.before.items ≡ own_points readings.now (contents held.now) key.now) }
+    ensures after { IfOk result (λ points. AllPlain held.now → map values_of points.after.items ≡ own_points readings.now (after_news (map arc_value news.now) (contents held.now)) key.now) }
+    ensures before_len { IfOk result (λ points. length points.before.items ≡ length readings.now) }
+    ensures after_len { IfOk result (λ points. length points.after.items ≡ length readings.now) }
+    ensures steps { steps.new ≤ steps.old + 2 * length readings.now }
+{
+    let mut before = Vec::new(alloc);
+    let mut after = Vec::new(alloc);
+    for (i, reading) in readings.iter().enumerate() {
+        let seen = look(alloc, reading, &held[i], &news[i], key, steps)?;
+        before.push(seen.before)?;
+        after.push(seen.after)?;
+    }
+    Ok(Points { before, after })
+}
+
+/// Notes what the result had and has at a key.
+fn note_key<L: Ledger>(
+    alloc: Global,
+    operation: SetOperation,
+    readings: &[Reading],
+    held: &[Held],
+    news: &[Arc<Delta>],
+    key: &Key,
+    draft: &mut Draft,
+    steps: &mut Steps<L>,
+) -> Result<(), AllocError>
+    requires held { length held.now ≡ length readings.now }
+    requires news { length news.now ≡ length readings.now }
+    ensures noted { OnOk result (AllPlain held.now → draft.new ≡ meant.noted_key operation readings.now held.now (map arc_value news.now) key.now draft.old) }
+    ensures steps { steps.new ≤ steps.old + 2 * length readings.now }
+{
+    let points = look_all(alloc, readings, held, news, key, steps)?;
+    let old = chosen(alloc, operation, readings, &points.before, key)?;
+    let new = chosen(alloc, operation, readings, &points.after, key)?;
+    let at = key.copy()?;
+    draft.note(Change { key: at, old, new })
+}
+
+/// Puts down the keys of the result that the changes of an operand come to.
+fn push_keys(
+    alloc: Global,
+    reading: &Reading,
+    news: &Delta,
+    keys: &mut Vec<Key>,
+) -> Result<(), AllocError>
+    ensures keys { OnOk result (keys.new.items ≡ keys.old.items ++ keys_read reading.now news.now) }
+    ensures differs { Differs news.now }
+{
+    for change in news.changes() {
+        keys.push(reading.key.put_key(alloc, &change.key)?)?;
+    }
+    Ok(())
+}
+
+/// The keys of the result that the changes of all operands come to.
+fn all_keys(
+    alloc: Global,
+    readings: &[Reading],
+    news: &[Arc<Delta>],
+) -> Result<Vec<Key>, AllocError>
+    requires { length news.now ≡ length readings.now }
+    ensures keys { IfOk result (λ keys. keys.items ≡ all_keys_read readings.now (map arc_value news.now)) }
+    ensures differs { IfOk result (λ keys. All Differs (map arc_value news.now)) }
+{
+    let mut keys = Vec::new(alloc);
+    for (i, reading) in readings.iter().enumerate() {
+        push_keys(alloc, reading, &news[i], &mut keys)?;
+    }
+    Ok(keys)
+}
+
+/// What is noted of the changes of all operands. Each change takes a look at each operand.
+pub fn noted<L: Ledger>(
+    alloc: Global,
+    operation: SetOperation,
+    readings: &[Reading],
+    held: &[Held],
+    news: &[Arc<Delta>],
+    steps: &mut Steps<L>,
+) -> Result<Draft, AllocError>
+    requires held { length held.now ≡ length readings.now }
+    requires news { length news.now ≡ length readings.now }
+    ensures noted { IfOk result (λ draft. AllPlain held.now → IsNoted operation readings.now held.now (map arc_value news.now) (all_keys_read readings.now (map arc_value news.now)) draft) }
+    ensures differs { IfOk result (λ draft. All Differs (map arc_value news.now)) }
+    ensures steps { steps.new ≤ steps.old + 2 * length readings.now * changes_in (map arc_value news.now) }
+{
+    let keys = all_keys(alloc, readings, news)?;
+    let mut draft = Draft::new(alloc);
+    for key in keys.as_slice() {
+        note_key(
+            alloc, operation, readings, held, news, key, &mut draft, steps,
+        )?;
+    }
+    Ok(draft)
+}

@@ -1,0 +1,179 @@
+// The rule of a set operator.
+ghost use Rattle.std.specs.Prelude.{◌≡◌, IfOk};
+ghost use Rattle.data_set_trees.specs.declared.tree.DataSetOperator.TheVariants.{Set};
+ghost use Rattle.checked_trees.specs.Operators.{an_operator};
+ghost use Rattle.set_ops.specs.Readings.{readings_of};
+ghost use Rattle.set_ops.specs.Rules as rules;
+ghost use Rattle.set_ops.specs.Rules.{IsSet, IsTypedSetOperator};
+
+use crate::notes::noted;
+use crate::reading::Reading;
+use data_model::steps::Steps;
+use data_set_trees::{DataSetNode, DataSetOperator, SetOperation, SharedOperator};
+use held_index::{DeltaRule, Held, Stop, Want};
+use point_sets::Delta;
+use sqlite_items::Items;
+use std::alloc::{AllocError, Global};
+use std::marker::Model;
+use std::sync::Arc;
+use std::sync::ledger::Ledger;
+use std::thread::Threads;
+use vtl_values::Structure;
+
+/// The rule of a set operator. It keeps how each operand is read.
+#[derive(Drop)]
+pub struct SetRule {
+    operator: SharedOperator,
+    operands: Items<Structure>,
+    structure: Structure,
+    readings: Items<Reading>,
+    wants: Items<Want>,
+}
+
+impl Model for SetRule {
+    ghost use Rattle.checked_trees.specs.Operators.{an_operator, operator_coded, Operator};
+    ghost use Rattle.set_ops.specs.Rules.{IsRule};
+
+    ghost Value = { Operator };
+
+    ghost coded = { operator_coded };
+
+    ghost view = { λ r. an_operator r.operator r.operands r.structure };
+
+    ghost invariant = { λ r. IsRule (an_operator r.operator r.operands r.structure) r.readings r.wants };
+}
+
+fn copy_all(alloc: Global, structures: &[Structure]) -> Result<Items<Structure>, AllocError>
+    ensures { IfOk result (λ copies. copies ≡ structures.now) }
+{
+    let mut copies = Vec::new(alloc);
+    for structure in structures {
+        copies.push(structure.copy()?)?;
+    }
+    Ok(Items::from_vec(copies))
+}
+
+fn whole(alloc: Global, operand: u64) -> Want
+    ensures { result ≡ rules.whole operand }
+{
+    Want {
+        operand,
+        part: Items::from_vec(Vec::new(alloc)),
+        order: Items::from_vec(Vec::new(alloc)),
+        sums: Items::from_vec(Vec::new(alloc)),
+    }
+}
+
+/// All operands, whole.
+fn all_whole(alloc: Global, operands: &[Structure]) -> Result<Items<Want>, AllocError>
+    ensures { IfOk result (λ wants. wants ≡ rules.all_whole 0 operands.now) }
+{
+    let mut wants = Vec::new(alloc);
+    for (i, _operand) in operands.iter().enumerate() {
+        wants.push(whole(alloc, i as u64))?;
+    }
+    Ok(Items::from_vec(wants))
+}
+
+/// How each operand is read.
+fn readings_of(
+    alloc: Global,
+    operands: &[Structure],
+    structure: &Structure,
+) -> Result<Items<Reading>, AllocError>
+    ensures { IfOk result (λ readings. readings ≡ readings_of operands.now structure.now) }
+{
+    let mut readings = Vec::new(alloc);
+    for operand in operands {
+        readings.push(Reading::between(alloc, operand, structure)?)?;
+    }
+    Ok(Items::from_vec(readings))
+}
+
+/// The set operation that an operator is.
+fn operation_of(operator: &DataSetOperator) -> SetOperation
+    requires { IsSet operator.now }
+    ensures { operator.now ≡ Set result }
+{
+    match operator {
+        DataSetOperator::Set(operation) => *operation,
+        _ => unreachable!(),
+    }
+}
+
+impl SetRule {
+    /// The rule of a node's operator, which is a set operator.
+    pub fn of(alloc: Global, node: &DataSetNode) -> Result<SetRule, AllocError>
+        requires { IsTypedSetOperator (an_operator node.now.operator node.now.operands node.now.structure) }
+        ensures { IfOk result (λ rule. rule ≡ an_operator node.now.operator node.now.operands node.now.structure) }
+    {
+        let operands = node.operands.as_slice();
+        Ok(SetRule {
+            operator: node.operator.copy()?,
+            operands: copy_all(alloc, operands)?,
+            structure: node.structure.copy()?,
+            readings: readings_of(alloc, operands, &node.structure)?,
+            wants: all_whole(alloc, operands)?,
+        })
+    }
+
+    /// The operation of the operator, which is a set operator.
+    fn operation(&self) -> SetOperation
+        ensures { self.now.operator ≡ Set result }
+    {
+        operation_of(self.operator.get())
+    }
+
+    /// How the operands are read.
+    fn readings(&self) -> &[Reading]
+        ensures typed { IsTypedSetOperator self.now }
+        ensures value { result.now ≡ readings_of self.now.operands self.now.structure }
+    {
+        self.readings.as_slice()
+    }
+}
+
+impl DeltaRule for SetRule {
+    ghost use Rattle.std.specs.Prelude.{length};
+    ghost use Rattle.std.specs.List.{AllZip};
+    ghost use Rattle.structured_sets.specs.Fitting.{IsBoundedSetOf};
+    ghost use Rattle.set_ops.specs.Reach.{set_reach, no_reach};
+    ghost use Rattle.set_ops.specs.Rules.{all_whole, set_meaning_of};
+
+    ghost arity = { λ r. length r.operands };
+
+    ghost admits = { λ r. AllZip IsBoundedSetOf r.operands };
+
+    ghost meaning = { set_meaning_of };
+
+    ghost wanted = { λ r. all_whole 0 r.operands };
+
+    ghost structure = { λ r. r.structure };
+
+    ghost reach = { λ r held news. set_reach (length r.operands) news };
+
+    ghost rests = { λ r held news. no_reach (length r.operands) news };
+
+    fn wants(&self) -> &[Want] {
+        self.wants.as_slice()
+    }
+
+    fn result(&self) -> &Structure {
+        &self.structure
+    }
+
+    fn delta<R: Threads + Sync, L: Ledger>(
+        &self,
+        _rt: &R,
+        alloc: Global,
+        before: u64,
+        held: &[Held],
+        news: &[Arc<Delta>],
+        steps: &mut Steps<L>,
+    ) -> Result<Delta, Stop> {
+        let operation = self.operation();
+        let readings = self.readings();
+        let draft = noted(alloc, operation, readings, held, news, steps)?;
+        draft.finish(alloc, before)
+    }
+}
