@@ -169,10 +169,11 @@ contains_one {A} {y} xs x found (k, below, is) =
     let same : y ≡ x = grind (arith, zero, is) in
     subst (λ (z : A). Contains xs z) same found
 
--- of three the second and the third
-pub second_named : {A : Type 0} (a b c x : A) → Contains (b ∷ []) x → Contains (a ∷ b ∷ c ∷ []) x
-second_named a b c x = contains_one (a ∷ b ∷ c ∷ []) x (1, omega arith, refl)
+-- of two the second
+pub second_named : {A : Type 0} (a b x : A) → Contains (b ∷ []) x → Contains (a ∷ b ∷ []) x
+second_named a b x = contains_one (a ∷ b ∷ []) x (1, omega arith, refl)
 
+-- of three the third
 pub third_named : {A : Type 0} (a b c x : A) → Contains (c ∷ []) x → Contains (a ∷ b ∷ c ∷ []) x
 third_named a b c x = contains_one (a ∷ b ∷ c ∷ []) x (2, omega arith, refl)
 

@@ -8,21 +8,29 @@ use Rattle.round_runs.specs.Answers.{Answer}
 use Rattle.commands.specs.Stages.{Stage, after, answer}
 use Rattle.commands.specs.Structures.{structures_in}
 use Rattle.commands.specs.Feeds.{revisions_in}
-use Rattle.commands.specs.Reading.{EvalBytes, bytes_of}
-use Rattle.commands.specs.Scripts.{script_of}
+use Rattle.commands.specs.Reading.{CommandBytes, ScriptBytes, bytes_of}
+use Rattle.commands.specs.Reading as bytes
+use Rattle.commands.specs.Checking.{structures_told}
+use Rattle.commands.specs.Scripts.{built_of, script_of}
 use Rattle.round_runs.specs.Eval.{eval}
 use Rattle.round_runs.specs.Runs.{IsRunOf}
 
--- what a command does once its words and files are taken
+-- what a command does once its words and files are taken: it writes a script's structures, or runs it over revisions
 pub data Run : Type 0 where
+  Check : Script → Run
   Eval : Script → List Revision → Run
 
--- the structures, the script over inputs of these, and the feed for its inputs, in this order
-abbrev pub forms_of : EvalBytes → Stage Run
-forms_of bytes =
-    after (structures_in bytes.structures) (λ structures.
-    after (script_of structures bytes.script) (λ script.
-    after (revisions_in script.inputs bytes.feed) (λ revisions.
+-- the structures, and then the script over inputs of these, with its structures worked out
+abbrev pub typed_in : ScriptBytes → Stage Script
+typed_in bytes = after (structures_in bytes.structures) (λ structures. script_of structures bytes.script)
+
+-- `eval` takes the feed for the script's inputs after these, where all of the script is built
+abbrev pub forms_of : CommandBytes → Stage Run
+forms_of (bytes.Check bytes) = after (typed_in bytes) (λ script. Ok (Check script))
+forms_of (bytes.Eval bytes feed) =
+    after (typed_in bytes) (λ typed.
+    after (built_of typed) (λ script.
+    after (revisions_in script.inputs feed) (λ revisions.
     Ok (Eval script revisions))))
 
 -- the stages before the run, in order: the words, the files, and the forms
@@ -31,6 +39,7 @@ ready words files = after (bytes_of words files) forms_of
 
 -- what a run writes, and its status
 abbrev pub answer_of : Run → Answer
+answer_of (Check script) = structures_told script
 answer_of (Eval script revisions) = eval script revisions
 
 -- all stages, and behind them the run
@@ -40,4 +49,5 @@ output words files = answer (after (ready words files) (λ run. Ok (answer_of ru
 -- the production of the run that the stages come to
 abbrev pub IsProductionOf : Stage Run → Seen → Type 0
 IsProductionOf (Ok (Eval script revisions)) p = IsRunOf script revisions p
+IsProductionOf (Ok (Check script)) p = ⊥
 IsProductionOf (Err end) p = ⊥

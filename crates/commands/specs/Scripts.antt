@@ -1,6 +1,6 @@
 -- The stages of the script: its tokens, its tree, the tree with its defined operators written out, its graph, and what
 -- it stands for (docs/language.md; docs/formats.md, "Output").
-use Rattle.std.specs.Prelude.{ℕ, List, [], ◌∷◌, ◌++◌, Option, Some, None, Result, Ok, Err, codes, decimal, encode_utf8_all}
+use Rattle.std.specs.Prelude.{ℕ, List, [], ◌∷◌, ◌++◌, Option, Some, None, Result, Ok, Err, if◌then◌else◌, codes, decimal, encode_utf8_all}
 use Rattle.std.specs.List.{flat_map}
 use Rattle.vtl_values.specs.declared.place.Place.{Place}
 use Rattle.vtl_tokens.specs.Keywords.{word_of}
@@ -21,7 +21,12 @@ use Rattle.script_graph.specs.declared.fault.PlacedFault.{PlacedFault as PlacedG
 use Rattle.script_graph.specs.Faults.{first_fault}
 use Rattle.checked_trees.specs.Scripts.{Script}
 use Rattle.vtl_values.specs.Structures.{NamedStructures}
-use Rattle.sum_scripts.specs.Scripts.{sum_script}
+use Rattle.typed_forms.specs.Forms.{can_be_typed}
+use Rattle.script_typing.specs.Scripts.{typed_of}
+use Rattle.built_scripts.specs.Built.{is_script_built}
+use Rattle.typing_rules.specs.declared.stop.Fault.{Fault as TypeFault}
+use Rattle.typing_rules.specs.declared.stop.Fault.TheVariants as types
+use Rattle.typing_rules.specs.declared.stop.Refusal.{Refusal}
 use Rattle.round_runs.specs.Answers.{Answer}
 use Rattle.commands.specs.Stages.{Stage, after}
 use Rattle.round_runs.specs.Lines.{line}
@@ -104,18 +109,38 @@ abbrev pub told_graph : Option PlacedGraphFault → Stage (Unit {0})
 told_graph None = Ok tt
 told_graph (Some placed) = Err (refused_script placed.place (graph_line placed.fault))
 
--- what is built of it
-abbrev pub told_sums : Option Script → Stage Script
-told_sums None = Err not_built
-told_sums (Some script) = Ok script
+abbrev pub type_line : TypeFault → List ℕ
+type_line types.UnknownComponent = codes "UnknownComponent\n"
+type_line types.WrongType = codes "WrongType\n"
+type_line types.WrongStructure = codes "WrongStructure\n"
+type_line types.WrongRole = codes "WrongRole\n"
+type_line types.NameTwice = codes "NameTwice\n"
+type_line types.TooManyComponents = codes "TooManyComponents\n"
+type_line types.BadConstant = codes "BadConstant\n"
+type_line types.BadPattern = codes "BadPattern\n"
+type_line types.BadRuleset = codes "BadRuleset\n"
 
--- what a tree stands for, over inputs of these structures
-abbrev pub checked : NamedStructures → tree.Script → Stage Script
-checked structures tree =
-    after (told_written (expanded tree)) (λ written.
-    after (told_graph (first_fault written structures)) (λ _.
-    told_sums (sum_script structures written)))
+-- the structures of the statements are worked out
+abbrev pub told_typed : Result Script Refusal → Stage Script
+told_typed (Ok script) = Ok script
+told_typed (Err refusal) = Err (refused_script refusal.place (type_line refusal.fault))
 
--- the checked script of a text, over inputs of these structures
+-- the structures of a script's statements, where all its forms are typed yet
+abbrev pub typed_stage : NamedStructures → tree.Script → Stage Script
+typed_stage structures script = if can_be_typed script then told_typed (typed_of structures script) else Err not_built
+
+-- the statements of a script have an order, and then their structures are worked out
+abbrev pub checked_structures : NamedStructures → tree.Script → Stage Script
+checked_structures structures script = after (told_graph (first_fault script structures)) (λ _. typed_stage structures script)
+
+-- the tree with its defined operators written out, and the structures of its statements
+abbrev pub typed : NamedStructures → tree.Script → Stage Script
+typed structures tree = after (told_written (expanded tree)) (checked_structures structures)
+
+-- the typed script of a text, over inputs of these structures
 abbrev pub script_of : NamedStructures → List ℕ → Stage Script
-script_of structures text = after (told_tokens (tokens_of text)) (λ tokens. after (told_tree (answered tokens)) (checked structures))
+script_of structures text = after (told_tokens (tokens_of text)) (λ tokens. after (told_tree (answered tokens)) (typed structures))
+
+-- the same script, where all its operators are built
+abbrev pub built_of : Script → Stage Script
+built_of script = if is_script_built script then Ok script else Err not_built

@@ -1,17 +1,14 @@
 -- The words of the program (docs/formats.md, "Commands").
-use Rattle.std.specs.Prelude.{◌==◌, ◌&&◌, ◌||◌, ◌%◌, ℕ, Bool, true, false, not, nat_le, List, [], ◌∷◌, length, if◌then◌else◌, Ok, Err, codes, chars, bytes_eq}
+use Rattle.std.specs.Prelude.{◌==◌, ◌&&◌, ◌||◌, ◌%◌, ℕ, Bool, true, false, not, nat_le, List, [], ◌∷◌, length, if◌then◌else◌, Ok, Err, codes, chars, bytes_eq, ⊤}
 use Rattle.std.specs.Str.{all_ascii_digits}
 use Rattle.std.specs.List.{list_all}
 use Rattle.std.specs.Str.Parse.{digits_value}
 use Rattle.commands.specs.declared.reading.TheConstants.{SCRIPT_LIMIT, STRUCTURES_LIMIT, FEED_LIMIT}
+use Rattle.commands.specs.declared.words.Command.{Command}
+use Rattle.commands.specs.declared.words.Command.TheVariants.{Check, Eval}
+use Rattle.commands.specs.declared.words.ScriptFiles.{ScriptFiles}
 use Rattle.commands.specs.Stages.{Stage}
 use Rattle.commands.specs.Lines.{not_built, usage}
-
--- the files that `eval` reads, by their names
-pub record EvalNames : Type 0 where
-  pub script : List ℕ
-  pub structures : List ℕ
-  pub feed : List ℕ
 
 -- a name isn't empty and doesn't begin with `-`
 abbrev pub is_name : List ℕ → Bool
@@ -71,15 +68,32 @@ accepts_make other = false
 
 -- a command that isn't built yet
 abbrev pub is_unbuilt : List (List ℕ) → Bool
-is_unbuilt words = accepts_check words || (accepts_session words || (accepts_produce words || accepts_make words))
+is_unbuilt words = accepts_session words || (accepts_produce words || accepts_make words)
 
-abbrev pub eval_of : List (List ℕ) → Stage EvalNames
-eval_of (word ∷ script ∷ structures ∷ feed ∷ []) = Ok (record { script = chars script; structures = chars structures; feed = chars feed })
+abbrev pub script_files : List ℕ → List ℕ → ScriptFiles
+script_files script structures = record { script = chars script; structures = chars structures }
+
+abbrev pub eval_of : List (List ℕ) → Stage Command
+eval_of (word ∷ script ∷ structures ∷ feed ∷ []) = Ok (Eval (script_files script structures) (chars feed))
 eval_of other = Err usage
 
--- the command that the words are: `eval`, one that isn't built, or none
-abbrev pub command_of : List (List ℕ) → Stage EvalNames
-command_of words = if accepts_eval words then eval_of words else if is_unbuilt words then Err not_built else Err usage
+abbrev pub check_of : List (List ℕ) → Stage Command
+check_of (word ∷ script ∷ structures ∷ []) = Ok (Check (script_files script structures))
+check_of other = Err usage
+
+-- the command that the words are: one that is built, one that isn't, or none
+abbrev pub command_of : List (List ℕ) → Stage Command
+command_of words = if accepts_eval words then eval_of words else if accepts_check words then check_of words else if is_unbuilt words then Err not_built else Err usage
+
+-- the command runs a script over revisions
+abbrev pub IsRun : Command → Type 0
+IsRun (Check names) = ⊥
+IsRun (Eval names feed) = ⊤
+
+-- the words are one that does
+abbrev pub Runs : Stage Command → Type 0
+Runs (Ok command) = IsRun command
+Runs (Err end) = ⊥
 
 -- a file that a command reads, and the most bytes that it may have
 pub record FileLimit : Type 0 where
@@ -89,11 +103,16 @@ pub record FileLimit : Type 0 where
 abbrev pub within : List ℕ → ℕ → FileLimit
 within name limit = record { name = name; limit = limit }
 
+-- a script, its structures, and these
+abbrev pub with_script : ScriptFiles → List FileLimit → List FileLimit
+with_script names others = within names.script SCRIPT_LIMIT ∷ within names.structures STRUCTURES_LIMIT ∷ others
+
 -- the files that an accepted command names, in the order in which they are read
-abbrev pub named : EvalNames → List FileLimit
-named eval = within eval.script SCRIPT_LIMIT ∷ within eval.structures STRUCTURES_LIMIT ∷ within eval.feed FEED_LIMIT ∷ []
+abbrev pub named : Command → List FileLimit
+named (Check names) = with_script names []
+named (Eval names feed) = with_script names (within feed FEED_LIMIT ∷ [])
 
 -- the files that the words name, where they are a command that is built
-abbrev pub files_named : Stage EvalNames → List FileLimit
-files_named (Ok eval) = named eval
+abbrev pub files_named : Stage Command → List FileLimit
+files_named (Ok command) = named command
 files_named (Err end) = []

@@ -13,13 +13,16 @@ ghost use Rattle.commands.specs.Lines.{unread};
 ghost use Rattle.commands.specs.Output.{output, ready, IsProductionOf};
 ghost use Rattle.round_runs.specs.Runs.{IsFew, IsRunOf, IsSomeRun, IsAtRest, HasFault, WritesEnd};
 ghost use Rattle.round_runs.specs.Answers.{Answer};
-ghost use Rattle.commands.specs.Views.{run_of, status_of};
-ghost use Rattle.commands.specs.Words.{command_of, files_named};
+ghost use Rattle.commands.specs.Checking.{structures_told};
+ghost use Rattle.commands.specs.Views.{run_of, status_of, HasFew, IsOfRun};
+ghost use Rattle.commands.specs.Words.{command_of, files_named, Runs};
 
-use crate::forms::{EvalInput, read_forms};
+use crate::checking::structures_text;
+use crate::forms::{EvalInput, Input, read_forms};
 use crate::reading::read_files;
 use crate::stop::Stop;
-use crate::words::command;
+use crate::words::command_of;
+use checked_trees::TypedScript;
 use outside::{Gate, Shelf, Sink, SinkStop, put};
 use round_core::Production;
 use round_runs::eval::{End, Ran, eval};
@@ -34,7 +37,7 @@ pub struct Outcome {
     /// 0 where all went well; 1 for words that no command accepts, 2 for a file that can't be read or is too long, 3 for
     /// structures or a script that are refused, 4 for a feed that is refused and for what isn't built yet, 5 for a round that failed, 6 for a write that failed, 7 for want of memory.
     pub status: u8,
-    /// Where the run came to its end, the production that it ran on.
+    /// Where a run of `eval` came to its end, the production that it ran on.
     pub production: Option<Production>,
 }
 
@@ -52,15 +55,16 @@ impl Outcome {
 }
 
 // All stages before the run.
-fn gathered<S: Shelf>(alloc: Global, words: &Vec<String>, shelf: &mut S) -> Result<EvalInput, Stop>
+fn gathered<S: Shelf>(alloc: Global, words: &Vec<String>, shelf: &mut S) -> Result<Input, Stop>
     ensures stage { Stands run_of (files_named (command_of (map string_bytes words.now.items)))
         (S.view shelf.old) (S.view shelf.new) result (ready (map string_bytes words.now.items)) }
-    ensures few { IfOk result (λ input. IsFew input.revisions.items) }
+    ensures few { IfOk result HasFew }
+    ensures run { IfOk result (λ input. Runs (command_of (map string_bytes words.now.items)) → IsOfRun input) }
     ensures words { (end : Answer) → command_of (map string_bytes words.now.items) ≡ Err end → IsErrAnd result (λ stop. Gives stop end) }
     ensures untouched { IsErr (command_of (map string_bytes words.now.items)) → S.view shelf.new ≡ S.view shelf.old }
 {
-    let eval = command(alloc, words)?;
-    let bytes = read_files(alloc, shelf, &eval)?;
+    let command = command_of(alloc, words)?;
+    let bytes = read_files(alloc, shelf, &command)?;
     read_forms(alloc, &bytes)
 }
 
@@ -87,6 +91,31 @@ fn write_run<K: Sink>(out: &mut K, ran: &Ran) -> u8
     match &ran.end {
         End::Released => status_after(ran.production.latest().write_to(out, written), 0),
         End::Failed(line) => status_after(put(out, written, line.as_slice()), 5),
+    }
+}
+
+// Writes the structures of a script's statements, and what became of the write.
+fn write_structures<K: Sink>(alloc: Global, out: &mut K, script: &TypedScript) -> u8
+    ensures did { Did (K.view out.old) (K.view out.new) (structures_told script.now) result }
+    ensures write { result ≡ 6 → Rose (K.view out.old).faults (K.view out.new).faults }
+    ensures status { (result ≡ 0) ⊎ (result ≡ 6) ⊎ (result ≡ 7) }
+{
+    match structures_text(alloc, script.statements()) {
+        Ok(text) => status_after(out.write(&text), 0),
+        Err(_) => 7,
+    }
+}
+
+// The structures of a script are written; there is no production.
+fn check<K: Sink>(alloc: Global, out: &mut K, script: &TypedScript) -> Outcome
+    ensures did { Did (K.view out.old) (K.view out.new) (structures_told script.now) result.status }
+    ensures write { result.status ≡ 6 → Rose (K.view out.old).faults (K.view out.new).faults }
+    ensures status { (result.status ≡ 0) ⊎ (result.status ≡ 6) ⊎ (result.status ≡ 7) }
+    ensures production { result.production ≡ None }
+{
+    Outcome {
+        status: write_structures(alloc, out, script),
+        production: None,
     }
 }
 
@@ -174,12 +203,14 @@ pub fn run_vtlprod<R: AllocGlobal + Threads + Wait + Sync, S: Shelf, K: Sink, G:
     ensures failed { result.status ≡ 5 → IfSome result.production HasFault }
     ensures production { Told (S.view shelf.old).files (λ files.
         IfSome result.production (IsProductionOf (ready (map string_bytes words.now.items) files))) }
-    ensures handed_back { (result.status ≡ 0) ⊎ (result.status ≡ 5) → IsSome result.production }
+    ensures handed_back { Runs (command_of (map string_bytes words.now.items)) →
+        (result.status ≡ 0) ⊎ (result.status ≡ 5) → IsSome result.production }
 {
     let _ = gate;
     let alloc = rt.alloc();
     match gathered(alloc, words, shelf) {
-        Ok(input) => run(rt, alloc, out, input),
+        Ok(Input::Check(script)) => check(alloc, out, &script),
+        Ok(Input::Eval(input)) => run(rt, alloc, out, input),
         Err(stop) => ended(out, stop),
     }
 }

@@ -1,13 +1,13 @@
 // The stage of a script's graph.
 ghost use Rattle.std.specs.Prelude.{◌≡◌, IfOk, IfErr, Ok};
 ghost use Rattle.script_graph.specs.Faults.{first_fault};
-ghost use Rattle.commands.specs.Ends.{IsRefusal, Refuses};
-ghost use Rattle.commands.specs.Scripts.{graph_line, told_graph};
+ghost use Rattle.commands.specs.Ends.{Gives, IsRefusal, Refuses};
+ghost use Rattle.commands.specs.Scripts.{graph_line, refused_script, told_graph};
 
 use crate::operators::{named_line, names_line};
 use crate::script::refused;
 use crate::stop::Stop;
-use script_graph::{GraphFault, GraphStop, order};
+use script_graph::{GraphFault, GraphStop, PlacedFault, order};
 use std::alloc::{AllocError, Global};
 use vtl_syntax::Script;
 use vtl_values::Structures;
@@ -21,12 +21,18 @@ pub fn has_order(alloc: Global, script: &Script, structures: &Structures) -> Res
 {
     match order(alloc, script, structures) {
         Ok(_) => Ok(()),
-        Err(GraphStop::Fault(placed)) => {
-            let end = graph_line(alloc, &placed.fault)?;
-            Err(refused(alloc, placed.place, end.as_slice()))
-        }
+        Err(GraphStop::Fault(placed)) => Err(refused_graph(alloc, &placed)?),
         Err(GraphStop::Memory) => Err(Stop::Memory),
     }
+}
+
+/// The end with the line of a fault of the graph.
+pub(crate) fn refused_graph(alloc: Global, placed: &PlacedFault) -> Result<Stop, AllocError>
+    ensures gives { IfOk result (λ stop. Gives stop (refused_script placed.now.place (graph_line placed.now.fault))) }
+    ensures kind { IfOk result IsRefusal }
+{
+    let end = graph_line(alloc, &placed.fault)?;
+    Ok(refused(alloc, placed.place, end.as_slice()))
 }
 
 fn graph_line(alloc: Global, fault: &GraphFault) -> Result<Vec<u8>, AllocError>

@@ -2,10 +2,11 @@
 //!
 //! `call::run_vtlprod` works on any shelf, sink and gate. Its contract says what is written and with which status the
 //! program ends (specs/Output.antt). It stands on `round_runs`, which runs a script over revisions, on the crates that read
-//! scripts, and on the forms of files that the program takes.
+//! scripts and work out their structures, and on the forms of files that the program takes.
 #![tactic(auto)]
 
 pub mod call;
+mod checking;
 mod feeds;
 pub mod forms;
 mod graph;
@@ -14,4 +15,5 @@ pub mod reading;
 pub mod script;
 pub mod stop;
 mod structures;
+mod typing;
 pub mod words;

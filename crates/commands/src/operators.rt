@@ -1,5 +1,5 @@
 // The stage of defined operators.
-ghost use Rattle.std.specs.Prelude.{◌≡◌, ◌++◌, IfOk, IfErr, OnOk, Ok};
+ghost use Rattle.std.specs.Prelude.{◌≡◌, ◌++◌, length, IfOk, IfErr, OnOk, Ok};
 ghost use Rattle.defined_operators.specs.Expanded.{expanded};
 ghost use Rattle.commands.specs.Ends.{IsRefusal, Refuses};
 ghost use Rattle.commands.specs.Scripts.{named_line, names_line, with_commas, operator_line, told_written};
@@ -15,6 +15,7 @@ use vtl_values::Word;
 /// The script in which calls of defined operators are written out.
 pub fn written_out(alloc: Global, script: &Script) -> Result<Script, Stop>
     ensures go { IfOk result (λ written. told_written (expanded script.now) ≡ Ok written) }
+    ensures as_many { IfOk result (λ written. length written.statements ≡ length script.now.statements) }
     ensures end { IfErr result (λ stop. Refuses stop (told_written (expanded script.now))) }
     ensures kind { IfErr result IsRefusal }
 {

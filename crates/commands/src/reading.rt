@@ -3,12 +3,13 @@ ghost use Rattle.std.specs.Prelude.{◌≡◌, ◌≢◌, ◌≤◌, [], ◌∷�
 ghost use Rattle.commands.specs.Ends.{Gives, Stands};
 ghost use Rattle.round_runs.specs.Lines.{line};
 ghost use Rattle.commands.specs.Lines.{unread, too_long};
-ghost use Rattle.commands.specs.Reading.{file, files_of};
-ghost use Rattle.commands.specs.Views.{as_bytes, eval_bytes, eval_names};
-ghost use Rattle.commands.specs.Words.{named, within};
+ghost use Rattle.commands.specs.Reading as meant;
+ghost use Rattle.commands.specs.Reading.{file};
+ghost use Rattle.commands.specs.Views.{as_bytes, command_bytes, script_bytes, script_in, AreOfRun};
+ghost use Rattle.commands.specs.Words.{named, with_script, within, IsRun};
 
 use crate::stop::{Ending, Stop};
-use crate::words::EvalFiles;
+use crate::words::{Command, ScriptFiles};
 use outside::{Shelf, ShelfStop};
 use std::alloc::{AllocError, Global};
 use vtl_values::Word;
@@ -65,30 +66,52 @@ pub fn read_file<S: Shelf>(
     }
 }
 
-/// The bytes of the files that `eval` reads.
+/// The bytes of a script and of its structure file.
 #[derive(Drop)]
-pub struct EvalBytes {
+pub struct ScriptBytes {
     pub script: Vec<u8>,
     pub structures: Vec<u8>,
-    pub feed: Vec<u8>,
+}
+
+/// A command, and the bytes of its files.
+#[derive(Drop)]
+pub enum CommandBytes {
+    Check(ScriptBytes),
+    Eval(ScriptBytes, Vec<u8>),
+}
+
+/// Reads the script, and then its structures.
+fn read_script<S: Shelf>(
+    alloc: Global,
+    shelf: &mut S,
+    files: &ScriptFiles,
+) -> Result<ScriptBytes, Stop>
+    ensures stands { Stands script_bytes (with_script files.now []) (S.view shelf.old) (S.view shelf.new) result
+        (meant.script_bytes files.now) }
+    ensures within { IfOk result (λ bytes. length bytes.script.items ≤ SCRIPT_LIMIT) }
+{
+    let script = read_file(alloc, shelf, &files.script, SCRIPT_LIMIT)?;
+    let structures = read_file(alloc, shelf, &files.structures, STRUCTURES_LIMIT)?;
+    Ok(ScriptBytes { script, structures })
 }
 
 /// Reads the files in the order of the words.
 pub fn read_files<S: Shelf>(
     alloc: Global,
     shelf: &mut S,
-    eval: &EvalFiles,
-) -> Result<EvalBytes, Stop>
-    ensures stands { Stands eval_bytes (named (eval_names eval.now)) (S.view shelf.old) (S.view shelf.new) result
-        (files_of (eval_names eval.now)) }
-    ensures within { IfOk result (λ bytes. length bytes.script.items ≤ SCRIPT_LIMIT) }
+    command: &Command,
+) -> Result<CommandBytes, Stop>
+    ensures stands { Stands command_bytes (named command.now) (S.view shelf.old) (S.view shelf.new) result
+        (meant.files_of command.now) }
+    ensures within { IfOk result (λ bytes. length (script_in bytes) ≤ SCRIPT_LIMIT) }
+    ensures run { IfOk result (λ bytes. IsRun command.now → AreOfRun bytes) }
 {
-    let script = read_file(alloc, shelf, &eval.script, SCRIPT_LIMIT)?;
-    let structures = read_file(alloc, shelf, &eval.structures, STRUCTURES_LIMIT)?;
-    let feed = read_file(alloc, shelf, &eval.feed, FEED_LIMIT)?;
-    Ok(EvalBytes {
-        script,
-        structures,
-        feed,
-    })
+    match command {
+        Command::Check(files) => Ok(CommandBytes::Check(read_script(alloc, shelf, files)?)),
+        Command::Eval(files, feed) => {
+            let bytes = read_script(alloc, shelf, files)?;
+            let feed = read_file(alloc, shelf, feed, FEED_LIMIT)?;
+            Ok(CommandBytes::Eval(bytes, feed))
+        }
+    }
 }

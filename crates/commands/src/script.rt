@@ -6,27 +6,22 @@ ghost use Rattle.vtl_lexer.specs.Texts.{tokens_of};
 ghost use Rattle.commands.specs.Ends.{Gives, IsRefusal, Refuses};
 ghost use Rattle.commands.specs.Scripts.{lex_line, fault_line, left_out, refused_at, refused_script, told_tokens, told_tree, script_of};
 
-use crate::graph::has_order;
 use crate::operators::written_out;
 use crate::reading::SCRIPT_LIMIT;
 use crate::stop::{Ending, Stop};
-use crate::words::not_built;
-use checked_trees::CheckedScript;
+use crate::typing::structures_of;
+use checked_trees::TypedScript;
 use std::alloc::{AllocError, Global};
-use sum_scripts::check_sums;
 use vtl_lexer::{LexFault, LexStop, tokens};
 use vtl_parser::{ParseFault, ParseStop, parse};
 use vtl_syntax::Script;
 use vtl_tokens::{Keyword, Token};
 use vtl_values::{Place, Structures};
 
-/// The checked script of a text, over inputs of these structures: its tokens are read, then the tree that they are; its
-/// defined operators are written out, and its statements have an order; and then it is told what this stands for.
-pub fn checked_script(
-    alloc: Global,
-    structures: Structures,
-    text: &[u8],
-) -> Result<CheckedScript, Stop>
+/// The script of a text with the structures of its statements, over inputs of these structures: its tokens are read, then
+/// the tree that they are; its defined operators are written out; its statements have an order; and then the structures
+/// are worked out, where all its forms are typed yet.
+pub fn typed_script(alloc: Global, structures: Structures, text: &[u8]) -> Result<TypedScript, Stop>
     requires { length text.now ≤ SCRIPT_LIMIT }
     ensures go { IfOk result (λ script. script_of structures text.now ≡ Ok script) }
     ensures inputs { IfOk result (λ script. script.inputs ≡ structures) }
@@ -36,11 +31,7 @@ pub fn checked_script(
     let tokens = read_tokens(alloc, text)?;
     let script = read_tree(alloc, tokens.as_slice())?;
     let written = written_out(alloc, &script)?;
-    has_order(alloc, &written, &structures)?;
-    match check_sums(alloc, structures, &written)? {
-        Some(checked) => Ok(checked),
-        None => Err(not_built(alloc)),
-    }
+    structures_of(alloc, &written, structures)
 }
 
 /// The tokens of a text.
@@ -62,6 +53,7 @@ fn read_tokens(alloc: Global, text: &[u8]) -> Result<Vec<Token>, Stop>
 fn read_tree(alloc: Global, tokens: &[Token]) -> Result<Script, Stop>
     requires { IsEnded tokens.now }
     ensures go { IfOk result (λ script. told_tree (answered tokens.now) ≡ Ok script) }
+    ensures few { IfOk result (λ script. length script.statements ≤ 256) }
     ensures end { IfErr result (λ stop. Refuses stop (told_tree (answered tokens.now))) }
     ensures kind { IfErr result IsRefusal }
 {

@@ -5,24 +5,31 @@ ghost use Rattle.std.specs.List.{list_all};
 ghost use Rattle.std.specs.Str.Parse.{digits_value};
 ghost use Rattle.commands.specs.Ends.{Gives, Refuses, IsOfWords};
 ghost use Rattle.commands.specs.Lines.{not_built, usage};
-ghost use Rattle.commands.specs.Words.{is_name, is_plain_number, is_number, is_workers, is_readers, is_count, are_feeds, accepts_eval, accepts_check, accepts_session, accepts_produce, accepts_make, is_unbuilt, command_of};
-ghost use Rattle.commands.specs.Views.{eval_names};
+ghost use Rattle.commands.specs.Words.{is_name, is_plain_number, is_number, is_workers, is_readers, is_count, are_feeds, accepts_eval, accepts_check, accepts_session, accepts_produce, accepts_make, is_unbuilt, script_files, command_of};
 
 use crate::stop::{Ending, Stop};
 use std::alloc::{AllocError, Global};
 use vtl_values::Word;
 
-/// The files that `eval` reads.
+/// The names of a script and of its structure file.
 #[derive(Drop)]
-pub struct EvalFiles {
+pub struct ScriptFiles {
     pub script: Word,
     pub structures: Word,
-    pub feed: Word,
+}
+
+/// A command that is built, with the files that it reads.
+#[derive(Drop)]
+pub enum Command {
+    /// `check SCRIPT STRUCT`
+    Check(ScriptFiles),
+    /// `eval SCRIPT STRUCT FEED`
+    Eval(ScriptFiles, Word),
 }
 
 /// The command, where the words are one that is built.
-pub fn command(alloc: Global, words: &Vec<String>) -> Result<EvalFiles, Stop>
-    ensures go { IfOk result (λ eval. command_of (map string_bytes words.now.items) ≡ Ok (eval_names eval)) }
+pub fn command_of(alloc: Global, words: &Vec<String>) -> Result<Command, Stop>
+    ensures go { IfOk result (λ command. command_of (map string_bytes words.now.items) ≡ Ok command) }
     ensures end { IfErr result (λ stop. Refuses stop (command_of (map string_bytes words.now.items))) }
     ensures words { IfErr result IsOfWords }
 {
@@ -30,19 +37,21 @@ pub fn command(alloc: Global, words: &Vec<String>) -> Result<EvalFiles, Stop>
         [word, script, structures, feed]
             if word.as_str() == "eval" && is_name(script) && is_name(structures) && is_name(feed) =>
             {
-                Ok(EvalFiles {
-                    script: name(alloc, script)?,
-                    structures: name(alloc, structures)?,
-                    feed: name(alloc, feed)?,
-                })
+                let files = script_files(alloc, script, structures)?;
+                Ok(Command::Eval(files, name(alloc, feed)?))
             }
+        [word, script, structures]
+            if word.as_str() == "check" && is_name(script) && is_name(structures) => {
+            Ok(Command::Check(script_files(alloc, script, structures)?))
+        }
         words => Err(not_run(alloc, words)),
     }
 }
 
 // The end of words that aren't a command that is built.
 fn not_run(alloc: Global, words: &[String]) -> Stop
-    requires { accepts_eval (map string_bytes words.now) ≡ false }
+    requires eval { accepts_eval (map string_bytes words.now) ≡ false }
+    requires check { accepts_check (map string_bytes words.now) ≡ false }
     ensures end { Refuses result (command_of (map string_bytes words.now)) }
     ensures words { IsOfWords result }
 {
@@ -73,6 +82,19 @@ fn usage(alloc: Global) -> Stop
     }
 }
 
+fn script_files(
+    alloc: Global,
+    script: &String,
+    structures: &String,
+) -> Result<ScriptFiles, AllocError>
+    ensures { IfOk result (λ files. files ≡ script_files (string_bytes script.now) (string_bytes structures.now)) }
+{
+    Ok(ScriptFiles {
+        script: name(alloc, script)?,
+        structures: name(alloc, structures)?,
+    })
+}
+
 fn name(alloc: Global, word: &String) -> Result<Word, AllocError>
     ensures { IfOk result (λ name. name ≡ chars (string_bytes word.now)) }
 {
@@ -92,18 +114,7 @@ fn is_name(word: &String) -> bool
 fn is_unbuilt(words: &[String]) -> bool
     ensures { result ≡ is_unbuilt (map string_bytes words.now) }
 {
-    accepts_check(words) || accepts_session(words) || accepts_produce(words) || accepts_make(words)
-}
-
-fn accepts_check(words: &[String]) -> bool
-    ensures { result ≡ accepts_check (map string_bytes words.now) }
-{
-    match words {
-        [word, script, structures] => word.as_str() == "check"
-            && is_name(script)
-            && is_name(structures),
-        _ => false,
-    }
+    accepts_session(words) || accepts_produce(words) || accepts_make(words)
 }
 
 fn accepts_session(words: &[String]) -> bool

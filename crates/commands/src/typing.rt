@@ -1,0 +1,60 @@
+// The stage of a script's structures.
+ghost use Rattle.std.specs.Prelude.{◌≡◌, ◌≤◌, length, IfOk, IfErr, Ok};
+ghost use Rattle.script_graph.specs.Faults.{first_fault};
+ghost use Rattle.commands.specs.Ends.{IsRefusal, Refuses};
+ghost use Rattle.commands.specs.Scripts.{told_graph, type_line, typed_stage, checked_structures};
+
+use crate::graph::{has_order, refused_graph};
+use crate::script::refused;
+use crate::stop::Stop;
+use crate::words::not_built;
+use checked_trees::TypedScript;
+use script_typing::{ScriptStop, check_script};
+use std::alloc::Global;
+use typed_forms::can_be_typed;
+use typing_rules::Fault;
+use vtl_syntax::Script;
+use vtl_values::Structures;
+
+/// The script with the structures of its statements: no name is given twice or stands for nothing, no statement depends on
+/// itself, and no statement has a fault of types.
+pub fn structures_of(
+    alloc: Global,
+    script: &Script,
+    structures: Structures,
+) -> Result<TypedScript, Stop>
+    requires { length script.now.statements ≤ 256 }
+    ensures go { IfOk result (λ typed. checked_structures structures script.now ≡ Ok typed) }
+    ensures inputs { IfOk result (λ typed. typed.inputs ≡ structures) }
+    ensures end { IfErr result (λ stop. Refuses stop (checked_structures structures script.now)) }
+    ensures kind { IfErr result IsRefusal }
+{
+    if !can_be_typed(script) {
+        has_order(alloc, script, &structures)?;
+        return Err(not_built(alloc));
+    }
+    match check_script(alloc, script, structures) {
+        Ok(typed) => Ok(typed),
+        Err(ScriptStop::Graph(placed)) => Err(refused_graph(alloc, &placed)?),
+        Err(ScriptStop::Refused(refusal)) => {
+            Err(refused(alloc, refusal.place, type_line(refusal.fault)))
+        }
+        Err(ScriptStop::Memory) => Err(Stop::Memory),
+    }
+}
+
+fn type_line(fault: Fault) -> &'static [u8]
+    ensures { result.now ≡ type_line fault }
+{
+    match fault {
+        Fault::UnknownComponent => b"UnknownComponent\n",
+        Fault::WrongType => b"WrongType\n",
+        Fault::WrongStructure => b"WrongStructure\n",
+        Fault::WrongRole => b"WrongRole\n",
+        Fault::NameTwice => b"NameTwice\n",
+        Fault::TooManyComponents => b"TooManyComponents\n",
+        Fault::BadConstant => b"BadConstant\n",
+        Fault::BadPattern => b"BadPattern\n",
+        Fault::BadRuleset => b"BadRuleset\n",
+    }
+}
