@@ -3,17 +3,19 @@ ghost use Rattle.std.specs.Prelude.{◌≡◌, ◌≤◌, IfOk};
 ghost use Rattle.round_cases.specs.Limits.{AreAllowed};
 
 use anyhow::{Result, bail};
+use built_scripts::runnable;
 use checked_trees::CheckedScript;
-use commands::script::checked_script;
+use commands::script::typed_script;
 use round_core::{ENTRY_LIMIT, FIELD_LIMIT, Limits, Production, SCRIPT_LIMIT};
 use serde_json::Value as Json;
+use sqlite_items::Items;
 use std::alloc::Global;
 use structure_files::read_structures;
 use vtl_values::Structures;
 
 // The script of these inputs that has no statement.
 fn no_statements(alloc: Global, inputs: Structures) -> CheckedScript {
-    CheckedScript::of(inputs, Vec::new(alloc), Vec::new(alloc))
+    CheckedScript::of(inputs, Items::new(alloc), Items::new(alloc))
 }
 
 // A limit that is at most the program's.
@@ -47,16 +49,19 @@ pub fn limits_at(words: &[Json], at: usize) -> Result<Limits>
 const A_AND_B: &str =
     "{\"datasets\":[{\"name\":\"A\",\"components\":[{\"name\":\"Id\",\"role\":\"identifier\",\"type\":\"string\"},{\"name\":\"Me\",\"role\":\"measure\",\"type\":\"number\"}]},{\"name\":\"B\",\"components\":[{\"name\":\"Id\",\"role\":\"identifier\",\"type\":\"string\"},{\"name\":\"Me\",\"role\":\"measure\",\"type\":\"number\"}]}]}";
 
-/// A script of sums over these inputs.
+/// A script over these inputs that may be run.
 pub fn script_of(alloc: Global, inputs: &Structures, script: &str) -> Result<CheckedScript>
     ensures { IfOk result (λ script. script.inputs ≡ inputs.now) }
 {
     if script.len() > 1000 {
         bail!("a long script");
     }
-    match checked_script(alloc, inputs.copy(alloc)?, script.as_bytes()) {
-        Ok(script) => Ok(script),
-        Err(_) => bail!("no script of sums"),
+    let Ok(script) = typed_script(alloc, inputs.copy(alloc)?, script.as_bytes()) else {
+        bail!("a script that is refused");
+    };
+    match runnable(script) {
+        Some(script) => Ok(script),
+        None => bail!("a script that isn't built"),
     }
 }
 
