@@ -1,5 +1,5 @@
 -- Operators, and where they are well typed (docs/language.md, "Clauses", "Structures of results").
-use Rattle.std.specs.Prelude.{◌≡◌, ◌++◌, true, List, [], ◌∷◌, map, Option, refl}
+use Rattle.std.specs.Prelude.{◌≡◌, ◌++◌, Bool, true, false, List, [], ◌∷◌, map, Option, refl}
 use Rattle.std.specs.Coded.{Coded, code_by, coded×, coded_list}
 use Rattle.std.specs.List.{All, list_all}
 use Rattle.vtl_values.specs.declared.structure.Component.{Component}
@@ -17,9 +17,12 @@ use Rattle.data_set_trees.specs.contracts.tree.DataSetOperator as operator
 use Rattle.data_set_trees.specs.declared.tree.Branch.{Branch}
 use Rattle.data_set_trees.specs.declared.tree.ChoiceMeasure.{ChoiceMeasure}
 use Rattle.data_set_trees.specs.declared.tree.DataSetOperator.{DataSetOperator}
-use Rattle.data_set_trees.specs.declared.tree.DataSetOperator.TheVariants.{Clause, Pair, Choice, ExistsIn, Set}
+use Rattle.data_set_trees.specs.declared.tree.DataSetOperator.TheVariants.{Clause, Pair, Choice, ExistsIn, Set, Join, InJoin}
 use Rattle.data_set_trees.specs.Components.{unlisted, virals_agree, are_alike}
+use Rattle.vtl_syntax.specs.declared.words.JoinFunction.{JoinFunction}
+use Rattle.vtl_syntax.specs.declared.words.JoinFunction.TheVariants.{Inner, Cross}
 use Rattle.data_set_trees.specs.Exists.{common_agree, exists_structure}
+use Rattle.data_set_trees.specs.Joins.{may_join, join_components}
 use Rattle.data_set_trees.specs.Pairs.{identifiers_agree, joined}
 use Rattle.checked_trees.specs.Choices.{is_branch, branches, IsChoiceOf}
 
@@ -89,27 +92,33 @@ pub record IsTypedSet (operands : List (List Component)) (structure : List Compo
   pub alike : list_all (are_alike first) others ≡ true
   pub bare : structure ≡ map unlisted first
 
--- The operator takes these structures and gives that one. Of the operators on several data sets the scalar ones are
--- built, and none of the others.
+-- the component without its name
+abbrev pub unnamed : Component → Component
+unnamed c = record c { name = [] }
+
+-- the same components in the same order, whatever their names
+abbrev pub AreSameButNames : List Component → List Component → Type 0
+AreSameButNames s t = map unnamed s ≡ map unnamed t
+
+-- The operands have in common what the join wants, and the result has the join's components. At the end of a join they have
+-- their names, and before that numbers in place of them.
+pub record IsTypedJoin (f : JoinFunction) (operands : List (List Component)) (structure : List Component) : Type 0 where
+  pub first : List Component
+  pub others : List (List Component)
+  pub some : operands ≡ first ∷ others
+  pub may : may_join f operands ≡ true
+  pub gives : AreSameButNames structure (map unlisted (join_components f operands))
+
+-- a clause in a join is as one on a data set, but for the names of what it leaves
+pub record IsTypedInJoin (clause : CheckedClause) (operands : List (List Component)) (structure : List Component) : Type 0 where
+  pub operand : List Component
+  pub one : operands ≡ operand ∷ []
+  pub typed : is_well_typed (frame_of operand) clause ≡ true
+  pub after_it : AreSameButNames structure (map unlisted (after clause (frame_of operand)).components)
+
+-- the operator takes these structures and gives that one
 abbrev pub TakesOperands : Operator → Type 0
 TakesOperands o = by_operator o.operator
-  where
-    by_operator : DataSetOperator → Type 0
-    by_operator (Clause clause) = IsTypedClause clause o.operands o.structure
-    by_operator (Pair items) = IsTypedPair items o.operands o.structure
-    by_operator (Choice holds fails items) = ⊥
-    by_operator (ExistsIn rows) = ⊥
-    by_operator (Set operation) = ⊥
-
--- its operands and its result are data sets of structures, which it takes and gives
-pub record IsTyped (o : Operator) : Type 0 where
-  pub structures : All IsStructure o.operands
-  pub result : IsStructure o.structure
-  pub takes : TakesOperands o
-
--- the operator takes these structures and gives that one, whether it is built or not
-abbrev pub IsTypedIfSaid : Operator → Type 0
-IsTypedIfSaid o = by_operator o.operator
   where
     by_operator : DataSetOperator → Type 0
     by_operator (Clause clause) = IsTypedClause clause o.operands o.structure
@@ -117,3 +126,18 @@ IsTypedIfSaid o = by_operator o.operator
     by_operator (Choice holds fails items) = IsTypedChoice holds fails items o.operands o.structure
     by_operator (ExistsIn rows) = IsTypedExists o.operands o.structure
     by_operator (Set operation) = IsTypedSet o.operands o.structure
+    by_operator (Join f) = IsTypedJoin f o.operands o.structure
+    by_operator (InJoin clause) = IsTypedInJoin clause o.operands o.structure
+
+-- Inner and cross joins aren't built yet, and all other operators are.
+abbrev pub is_built : DataSetOperator → Bool
+is_built (Join Inner) = false
+is_built (Join Cross) = false
+is_built _ = true
+
+-- its operands and its result are data sets of structures, which it takes and gives, and it is built: it may be run
+pub record IsTyped (o : Operator) : Type 0 where
+  pub structures : All IsStructure o.operands
+  pub result : IsStructure o.structure
+  pub takes : TakesOperands o
+  pub built : is_built o.operator ≡ true

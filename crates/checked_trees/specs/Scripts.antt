@@ -11,7 +11,7 @@ use Rattle.checked_trees.specs.contracts.script.CheckedStatement as statement
 use Rattle.data_set_trees.specs.declared.tree.Source.{Source}
 use Rattle.data_set_trees.specs.declared.tree.Source.TheVariants.{Input, Result}
 use Rattle.checked_trees.specs.Expressions.{Expression, Expressions, Named, Applied, none, more, expression_of}
-use Rattle.checked_trees.specs.Operators.{Operator, IsTyped, IsTypedIfSaid}
+use Rattle.checked_trees.specs.Operators.{Operator, IsTyped, TakesOperands}
 use Rattle.checked_trees.specs.Typing.{Fits}
 
 -- the inputs' structures, the statements as the script has them, and an order of their numbers
@@ -95,7 +95,7 @@ pub record IsScriptOf (fit : Operator → Type 0) (s : Script) : Type 0 where
 
 -- the structures of a script's statements are worked out, and its operators are well typed, whether they are built or not
 abbrev pub IsTypedScript : Script → Type 0
-IsTypedScript = IsScriptOf IsTypedIfSaid
+IsTypedScript = IsScriptOf TakesOperands
 
 -- all operators of a script are well typed, and built: it may be run
 abbrev pub IsChecked : Script → Type 0

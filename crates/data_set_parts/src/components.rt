@@ -25,7 +25,7 @@ pub fn has_role(role: Role, component: &Component) -> bool
 }
 
 /// What a component of a result is: it has no code list, viral attributes aside. Or want of memory.
-pub(crate) fn unlisted(component: &Component) -> Result<Component, AllocError>
+pub fn unlisted(component: &Component) -> Result<Component, AllocError>
     ensures { IfOk result (λ c. c ≡ meant.unlisted component.now) }
 {
     if has_role(Role::Viral, component) {
@@ -40,7 +40,7 @@ pub(crate) fn unlisted(component: &Component) -> Result<Component, AllocError>
 }
 
 /// The components of this role, in their order.
-pub(crate) fn of_role(
+pub fn of_role(
     alloc: Global,
     role: Role,
     components: &[Component],
@@ -123,7 +123,7 @@ pub fn further(
 }
 
 /// Whether no name stands twice.
-pub(crate) fn names_differ(components: &[Component]) -> bool
+pub fn names_differ(components: &[Component]) -> bool
     ensures { result ≡ meant.names_differ components.now }
 {
     for (i, component) in components.iter().enumerate() {

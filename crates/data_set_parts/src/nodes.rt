@@ -49,6 +49,45 @@ fn parted(alloc: Global, mut sets: Items<DataSet>) -> Result<Parts, AllocError>
     Ok(Parts { trees, structures })
 }
 
+/// A shared operator at its place on data sets by parts, with the structure of its result twice.
+fn node_of(
+    operator: SharedOperator,
+    place: Place,
+    parts: Parts,
+    structure: Structure,
+    copy: Structure,
+) -> DataSet
+    requires { copy ≡ structure }
+    ensures { result ≡ own.node_of operator place parts.trees parts.structures structure }
+{
+    let Parts { trees, structures } = parts;
+    DataSet {
+        tree: DataSetTree::Operator(DataSetNode {
+            operator,
+            place,
+            children: trees,
+            operands: structures,
+            structure: copy,
+        }),
+        structure,
+    }
+}
+
+/// A shared operator at its place on these data sets. Or want of memory.
+fn shared(
+    alloc: Global,
+    operator: SharedOperator,
+    place: Place,
+    operands: Items<DataSet>,
+    structure: Structure,
+) -> Result<DataSet, AllocError>
+    ensures { IfOk result (λ set. set ≡ meant.applied operator place operands structure) }
+{
+    let parts = parted(alloc, operands)?;
+    let copy = structure.copy()?;
+    Ok(node_of(operator, place, parts, structure, copy))
+}
+
 /// An operator at its place on these data sets, with the structure of its result. Or want of memory. It costs their
 /// number.
 pub fn applied(
@@ -60,19 +99,8 @@ pub fn applied(
 ) -> Result<DataSet, AllocError>
     ensures { IfOk result (λ set. set ≡ meant.applied operator place operands structure) }
 {
-    let parts = parted(alloc, operands)?;
-    let copy = structure.copy()?;
-    let node = DataSetNode {
-        operator: SharedOperator::of(alloc, operator)?,
-        place,
-        children: parts.trees,
-        operands: parts.structures,
-        structure: copy,
-    };
-    Ok(DataSet {
-        tree: DataSetTree::Operator(node),
-        structure,
-    })
+    let operator = SharedOperator::of(alloc, operator)?;
+    shared(alloc, operator, place, operands, structure)
 }
 
 fn push_set(sets: &mut Items<DataSet>, operand: Operand) -> Result<(), AllocError>

@@ -12,7 +12,7 @@ use typing_rules::{Fault, TypeStop};
 use vtl_values::{Component, Place, Structure};
 
 /// The same components, to make a structure of.
-fn listed(alloc: Global, components: &[Component]) -> Result<Vec<Component>, AllocError>
+pub fn listed(alloc: Global, components: &[Component]) -> Result<Vec<Component>, AllocError>
     ensures { IfOk result (λ list. list.items ≡ components.now) }
 {
     let mut list = Vec::new(alloc);
@@ -23,7 +23,7 @@ fn listed(alloc: Global, components: &[Component]) -> Result<Vec<Component>, All
 }
 
 /// The components without their code lists, to make a structure of.
-pub(crate) fn listed_unlisted(
+pub fn listed_unlisted(
     alloc: Global,
     components: &[Component],
 ) -> Result<Vec<Component>, AllocError>

@@ -2,21 +2,20 @@
 use Rattle.std.specs.Prelude.{◌≡◌, pos, ℕ, List, [], ◌∷◌, Result, Ok, Err, Option, codes}
 use Rattle.vtl_values.specs.declared.kind.Kind.{Kind}
 use Rattle.vtl_values.specs.declared.kind.Kind.TheVariants as kind
-use Rattle.vtl_values.specs.declared.kind.Role.{Role}
 use Rattle.vtl_values.specs.declared.kind.Role.TheVariants.{Identifier, Measure, Attribute, Viral}
 use Rattle.vtl_values.specs.declared.place.Place.{Place}
-use Rattle.vtl_values.specs.declared.structure.Codes.TheVariants.{Any, Listed}
+use Rattle.vtl_values.specs.declared.structure.Codes.TheVariants.{Listed}
 use Rattle.vtl_values.specs.declared.structure.Component.{Component}
 use Rattle.vtl_values.specs.declared.value.Value.TheVariants as value
 use Rattle.typing_rules.specs.declared.stop.Fault.{Fault}
-use Rattle.typing_rules.specs.declared.stop.Refusal.{Refusal}
 use Rattle.typing_rules.specs.Scalars.{literal_typed}
+use Rattle.clause_trees.specs.declared.clause.CheckedClause.TheVariants.{Rename}
 use Rattle.clause_trees.specs.After.{made}
-use Rattle.data_set_trees.specs.declared.operand.DataSet.{DataSet}
 use Rattle.data_set_trees.specs.declared.operand.Operand.{Operand}
 use Rattle.data_set_trees.specs.declared.operand.Operand.TheVariants as operand
 use Rattle.data_set_trees.specs.declared.tree.DataSetTree.TheVariants as tree
 use Rattle.data_set_trees.specs.declared.tree.Source.TheVariants.{Input}
+use Rattle.data_set_trees.specs.Joins.{Aliased, Placed}
 use Rattle.data_set_trees.specs.Trees.{SetAnswer}
 
 abbrev pub here : Place
@@ -95,6 +94,14 @@ half = operand.Scalar (literal_typed (value.Number (pos 2500000)))
 
 abbrev pub abc : Operand
 abc = operand.Scalar (literal_typed (value.Text (codes "abc")))
+
+-- an operand of a join under its alias
+abbrev pub named : List ℕ → List Component → Aliased
+named alias structure = record { alias = alias; structure = structure }
+
+-- a clause that renames the first component of a join
+abbrev pub renamed_first : List ℕ → List Placed
+renamed_first name = record { clause = Rename (record { component = 0; name = name } ∷ []); place = here } ∷ []
 
 -- ---- what is told of an answer
 

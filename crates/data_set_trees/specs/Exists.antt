@@ -12,7 +12,6 @@ use Rattle.scalar_trees.specs.WellTyped.{is_kind}
 use Rattle.typing_rules.specs.declared.stop.Fault.TheVariants.{WrongStructure}
 use Rattle.typing_rules.specs.Steps.{◌>>=◌, demanded, refused}
 use Rattle.clause_trees.specs.After.{made}
-use Rattle.data_set_trees.specs.declared.operand.DataSet.{DataSet}
 use Rattle.data_set_trees.specs.declared.operand.Operand.{Operand}
 use Rattle.data_set_trees.specs.declared.operand.Operand.TheVariants as operand
 use Rattle.data_set_trees.specs.declared.tree.DataSetOperator.TheVariants as operator

@@ -9,5 +9,6 @@ pub mod Exists
 pub mod Sets
 pub mod Choices
 pub mod OnClauses
+pub mod Joins
 pub mod Expressions
 pub mod Examples

@@ -9,7 +9,7 @@ use Rattle.vtl_values.specs.declared.structure.Component.{Component}
 use Rattle.vtl_values.specs.declared.value.Value.TheVariants.{Null}
 use Rattle.typing_rules.specs.declared.scope.Slot.{Slot}
 use Rattle.typing_rules.specs.declared.stop.Fault.{Fault}
-use Rattle.typing_rules.specs.declared.stop.Fault.TheVariants.{UnknownComponent, WrongType, WrongStructure, WrongRole, NameTwice, TooManyComponents, BadConstant, BadPattern, BadRuleset}
+use Rattle.typing_rules.specs.declared.stop.Fault.TheVariants.{WrongType, WrongStructure, NameTwice}
 use Rattle.typing_rules.specs.declared.stop.Refusal.{Refusal}
 use Rattle.typing_rules.specs.declared.typed.Typed.{Typed}
 use Rattle.typing_rules.specs.Scalars.{Answer, literal_typed, slot_typed, whole_kind}
@@ -23,7 +23,7 @@ use Rattle.data_set_trees.specs.declared.operand.DataSet.{DataSet}
 use Rattle.data_set_trees.specs.declared.operand.Operand.{Operand}
 use Rattle.data_set_trees.specs.declared.operand.Operand.TheVariants as operand
 use Rattle.data_set_trees.specs.Components.{identifiers, virals, measures, is_taken}
-use Rattle.data_set_trees.specs.Forms.{formed, changed_name}
+use Rattle.data_set_trees.specs.Forms.{formed}
 use Rattle.data_set_trees.specs.Trees.{SetAnswer, with_clause, data_sets}
 
 -- ---- on components

@@ -1,5 +1,5 @@
 -- `a#c` of a data set (docs/language.md, "Structures of results").
-use Rattle.std.specs.Prelude.{ℕ, Bool, ◌+◌, List, [], ◌∷◌, Option, Some, None, Ok, if◌then◌else◌}
+use Rattle.std.specs.Prelude.{ℕ, ◌+◌, List, [], ◌∷◌, Option, Some, None, Ok, if◌then◌else◌}
 use Rattle.vtl_values.specs.declared.kind.Role.TheVariants.{Measure}
 use Rattle.vtl_values.specs.declared.place.Place.{Place}
 use Rattle.vtl_values.specs.declared.structure.Component.{Component}
@@ -9,11 +9,9 @@ use Rattle.typing_rules.specs.Steps.{◌>>=◌, or_refused, demanded, refused}
 use Rattle.clause_trees.specs.declared.clause.CheckedMeasure.{CheckedMeasure}
 use Rattle.clause_trees.specs.declared.clause.CheckedClause.TheVariants as clause
 use Rattle.clause_trees.specs.Frames.{has_role}
-use Rattle.data_set_trees.specs.declared.measure.Measure as declared
-use Rattle.data_set_trees.specs.declared.operand.DataSet.{DataSet}
 use Rattle.data_set_trees.specs.declared.operand.Operand.{Operand}
 use Rattle.data_set_trees.specs.declared.operand.Operand.TheVariants as operand
-use Rattle.data_set_trees.specs.Components.{has_name, numbered, name_of_kind}
+use Rattle.data_set_trees.specs.Components.{has_name, name_of_kind}
 use Rattle.data_set_trees.specs.Trees.{SetAnswer, with_clause}
 use Rattle.data_set_trees.specs.Lifted.{is_free}
 

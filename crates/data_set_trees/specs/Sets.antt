@@ -1,5 +1,5 @@
 -- Set operators (docs/language.md, "Structures of results").
-use Rattle.std.specs.Prelude.{Bool, List, [], ◌∷◌, map, Option, Some, None, Ok}
+use Rattle.std.specs.Prelude.{List, [], ◌∷◌, map, Option, Some, None, Ok}
 use Rattle.std.specs.List.{list_all}
 use Rattle.std.specs.Option.{option_map}
 use Rattle.vtl_values.specs.declared.place.Place.{Place}

@@ -3,7 +3,7 @@ use crate::shared::SharedOperator;
 use clause_trees::{CheckedClause, CheckedMeasure};
 use scalar_trees::CheckedExpr;
 use sqlite_items::Items;
-use vtl_syntax::words::ExistsRows;
+use vtl_syntax::words::{ExistsRows, JoinFunction};
 use vtl_values::{Kind, Place, Structure, Word};
 
 /// What a name stands for: an input by its number among the structures, or the result of a statement by its number in
@@ -62,6 +62,10 @@ pub enum DataSetOperator {
     },
     /// `union(a, b, ..)` and its like
     Set(SetOperation),
+    /// `inner_join(a as x, b as y, ..)` and its like, without the clauses inside
+    Join(JoinFunction),
+    /// A clause inside a join. There components are called by their numbers, and get their names at the end.
+    InJoin(CheckedClause),
 }
 
 /// A name, or an operator on its operands.
