@@ -247,8 +247,8 @@ fn without(alloc: Global, items: &[CheckedSubItem], frame: &Frame) -> Result<Fra
 }
 
 /// What a frame is after a checked clause: the components of the clause's result and their names, in which a component
-/// that is worked out has no code list. Or want of memory. It costs the number of components times the number of names,
-/// and of what the clause names.
+/// that is worked out has no code list. Or want of memory. It costs the number of components and names in the frame and in
+/// the clause; for `keep`, `drop`, `sub` and `rename` the one times the other.
 pub fn frame_after(alloc: Global, clause: &CheckedClause, frame: Frame) -> Result<Frame, AllocError>
     ensures { IfOk result (λ after. after ≡ meant.after clause.now frame) }
 {

@@ -97,7 +97,7 @@ fn has_room_for(alloc: Global, frame: &Frame, items: &[CheckedItem]) -> Result<b
 
 /// `calc items`, of items that `item_typed` made of this frame; `WrongRole` where a target is an identifier or a viral
 /// attribute, else `NameTwice` where two items have one target, else `TooManyComponents` where the result would have more
-/// than 64, or want of memory. It costs the square of the number of items.
+/// than 64, or want of memory. It costs the number of items and the size of the frame.
 pub fn calc_typed(
     alloc: Global,
     place: Place,
@@ -112,7 +112,7 @@ pub fn calc_typed(
 {
     let all = items.as_slice();
     let fit = may_calculate(frame, all);
-    let once = targets_differ(all);
+    let once = targets_differ(alloc, all)?;
     let room = has_room_for(alloc, frame, all)?;
     demands(
         place,

@@ -1,93 +1,84 @@
-// Whether no two are the same.
-ghost use Rattle.std.specs.Prelude.{◌≡◌, nat_eq};
-ghost use Rattle.std.specs.List.{list_any};
+// Whether no two are the same, at the cost of their number.
+ghost use Rattle.std.specs.Prelude.{◌≡◌, IfOk};
 ghost use Rattle.clause_trees.specs.Clauses as meant;
+ghost use Rattle.clause_typing.specs.Keys.{name_of, full_name, target_of};
 
 use clause_trees::{CheckedItem, CheckedRename, Frame, Target};
+use indexmap::IndexSet;
+use std::alloc::{AllocError, Global};
 use typing_rules::ScopeName;
 use vtl_values::Word;
 
-fn is_same_alias(alias: &Option<Word>, other: &Option<Word>) -> bool
-    ensures { result ≡ meant.is_same_alias alias.now other.now }
+/// A name, alias and all.
+#[derive(Clone, Copy, PartialEq, Eq, Hash)]
+struct FullName<'a> {
+    alias: Option<&'a Word>,
+    name: &'a Word,
+}
+
+fn full_name(name: &ScopeName) -> FullName<'_>
+    ensures { name_of result ≡ full_name name.now }
 {
-    match (alias, other) {
-        (None, None) => true,
-        (Some(alias), Some(other)) => *alias == *other,
-        _ => false,
+    FullName {
+        alias: name.alias.as_ref(),
+        name: &name.name,
     }
 }
 
-fn is_same_name(name: &ScopeName, other: &ScopeName) -> bool
-    ensures { result ≡ meant.is_same_name name.now other.now }
+/// Whether no two names are the same, alias and all, or want of memory.
+pub(crate) fn names_differ(alloc: Global, frame: &Frame) -> Result<bool, AllocError>
+    ensures { IfOk result (λ differ. differ ≡ meant.names_differ frame.now) }
 {
-    is_same_alias(&name.alias, &other.alias) && name.name == other.name
-}
-
-fn has_name(name: &ScopeName, others: &[ScopeName]) -> bool
-    ensures { result ≡ list_any (meant.is_same_name name.now) others.now }
-{
-    others.iter().any(|other| is_same_name(name, other))
-}
-
-/// Whether no two names are the same, alias and all.
-pub(crate) fn names_differ(frame: &Frame) -> bool
-    ensures { result ≡ meant.names_differ frame.now }
-{
-    let names = frame.names.as_slice();
-    for (i, name) in names.iter().enumerate() {
-        if has_name(name, &names[i + 1..]) {
-            return false;
+    let mut seen = IndexSet::new(alloc);
+    for name in frame.names.as_slice() {
+        let new = seen.insert(full_name(name))?;
+        if !new {
+            return Ok(false);
         }
     }
-    true
+    Ok(true)
 }
 
-fn is_renamed(renaming: &CheckedRename, others: &[CheckedRename]) -> bool
-    ensures { result ≡ list_any (λ r. nat_eq renaming.now.component r.component) others.now }
+/// Whether no component gets two names, or want of memory.
+pub(crate) fn renamed_once(alloc: Global, renames: &[CheckedRename]) -> Result<bool, AllocError>
+    ensures { IfOk result (λ once. once ≡ meant.renamed_once renames.now) }
 {
-    others
-        .iter()
-        .any(|other| renaming.component == other.component)
-}
-
-/// Whether no component gets two names.
-pub(crate) fn renamed_once(renames: &[CheckedRename]) -> bool
-    ensures { result ≡ meant.renamed_once renames.now }
-{
-    for (i, renaming) in renames.iter().enumerate() {
-        if is_renamed(renaming, &renames[i + 1..]) {
-            return false;
+    let mut seen = IndexSet::new(alloc);
+    for renaming in renames {
+        let new = seen.insert(renaming.component)?;
+        if !new {
+            return Ok(false);
         }
     }
-    true
+    Ok(true)
 }
 
-fn is_same_target(target: &Target, other: &Target) -> bool
-    ensures { result ≡ meant.is_same_target target.now other.now }
+/// What an item of `calc` is put into.
+#[derive(Clone, Copy, PartialEq, Eq, Hash)]
+enum TargetRef<'a> {
+    Old(u64),
+    New(&'a Word),
+}
+
+fn target_ref(target: &Target) -> TargetRef<'_>
+    ensures { target_of result ≡ target.now }
 {
-    match (target, other) {
-        (Target::Old(number), Target::Old(other)) => *number == *other,
-        (Target::New(name), Target::New(other)) => *name == *other,
-        _ => false,
+    match target {
+        Target::Old(number) => TargetRef::Old(*number),
+        Target::New(name) => TargetRef::New(name),
     }
 }
 
-fn has_target(item: &CheckedItem, others: &[CheckedItem]) -> bool
-    ensures { result ≡ list_any (λ i. meant.is_same_target item.now.target i.target) others.now }
+/// Whether no two items of a `calc` have one target, or want of memory.
+pub(crate) fn targets_differ(alloc: Global, items: &[CheckedItem]) -> Result<bool, AllocError>
+    ensures { IfOk result (λ differ. differ ≡ meant.targets_differ items.now) }
 {
-    others
-        .iter()
-        .any(|other| is_same_target(&item.target, &other.target))
-}
-
-/// Whether no two items of a `calc` have one target.
-pub(crate) fn targets_differ(items: &[CheckedItem]) -> bool
-    ensures { result ≡ meant.targets_differ items.now }
-{
-    for (i, item) in items.iter().enumerate() {
-        if has_target(item, &items[i + 1..]) {
-            return false;
+    let mut seen = IndexSet::new(alloc);
+    for item in items {
+        let new = seen.insert(target_ref(&item.target))?;
+        if !new {
+            return Ok(false);
         }
     }
-    true
+    Ok(true)
 }

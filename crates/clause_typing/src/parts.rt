@@ -1,8 +1,10 @@
 // Frames, and parts of them.
-ghost use Rattle.std.specs.Prelude.{◌≡◌, filter_map, position, nat_eq, slice_get, IfOk};
+ghost use Rattle.std.specs.Prelude.{◌≡◌, ℕ, filter_map, option_map, position, nat_eq, slice_get, IfOk};
+ghost use Rattle.indexmap.specs.IndexMap.{get};
 ghost use Rattle.clause_trees.specs.Frames as meant;
 
 use clause_trees::Frame;
+use indexmap::IndexMap;
 use operator_typing::scope_of;
 use sqlite_items::Items;
 use std::alloc::{AllocError, Global};
@@ -81,19 +83,28 @@ pub fn scope_of_frame(alloc: Global, frame: &Frame) -> Result<Scope, AllocError>
     })
 }
 
-/// Where a number stands in the list.
-fn place_of(numbers: &[u64], number: u64) -> Option<usize>
-    ensures { result ≡ position (nat_eq number) numbers.now }
+/// Where numbers stand in the list, for the first time.
+fn places_of(alloc: Global, numbers: &[u64]) -> Result<IndexMap<u64, u64>, AllocError>
+    ensures { IfOk result (λ places. (number : ℕ) → get nat_eq places number ≡ position (nat_eq number) numbers.now) }
 {
-    numbers.iter().position(|other| number == *other)
+    let mut places = IndexMap::new(alloc);
+    for (place, number) in numbers.iter().enumerate() {
+        if !places.contains_key(number) {
+            places.insert(*number, place as u64)?;
+        }
+    }
+    Ok(places)
 }
 
-/// A name whose component comes to stand where its number is in the list.
-fn moved_name(numbers: &[u64], name: &ScopeName) -> Result<Option<ScopeName>, AllocError>
-    ensures { IfOk result (λ moved. moved ≡ meant.moved_name numbers.now name.now) }
+/// A name whose component comes to stand at the place of its number.
+fn moved_name(
+    places: &IndexMap<u64, u64>,
+    name: &ScopeName,
+) -> Result<Option<ScopeName>, AllocError>
+    ensures { IfOk result (λ moved. moved ≡ option_map (λ place. record name.now { number = place }) (get nat_eq places.now name.now.number)) }
 {
-    match place_of(numbers, name.number) {
-        Some(place) => Ok(Some(copy_name(name, place as u64)?)),
+    match places.get(&name.number) {
+        Some(place) => Ok(Some(copy_name(name, *place)?)),
         None => Ok(None),
     }
 }
@@ -105,9 +116,10 @@ fn moved_names(
 ) -> Result<Items<ScopeName>, AllocError>
     ensures { IfOk result (λ moved. moved ≡ filter_map (meant.moved_name numbers.now) names.now) }
 {
+    let places = places_of(alloc, numbers)?;
     let mut moved = Items::new(alloc);
     for name in names {
-        if let Some(name) = moved_name(numbers, name)? {
+        if let Some(name) = moved_name(&places, name)? {
             moved.push(name)?;
         }
     }

@@ -52,18 +52,22 @@ fn all_checked(
     Ok(all)
 }
 
-/// Whether no component gets two names and the names of the result differ, or want of memory.
+/// Whether no component gets two names and the names of the result differ, or want of memory. Where one gets two names
+/// nothing is renamed, so there are no more renamings than components.
 fn differ(alloc: Global, frame: &Frame, renames: &[CheckedRename]) -> Result<bool, AllocError>
     ensures { IfOk result (λ differ. differ ≡ meant.renames_differ frame.now renames.now) }
 {
+    if !renamed_once(alloc, renames)? {
+        return Ok(false);
+    }
     let mut after = copy_frame(alloc, frame)?;
     rename_all(alloc, &mut after, renames)?;
-    Ok(renamed_once(renames) && names_differ(&after))
+    names_differ(alloc, &after)
 }
 
 /// `rename names`, all at once; `UnknownComponent` where a name is that of no component, else `NameTwice` where a
 /// component gets two names or the result would have two of one name, alias and all, or want of memory. It costs the
-/// square of the number of names.
+/// number of names here times that in the frame.
 pub fn rename_typed(
     alloc: Global,
     place: Place,

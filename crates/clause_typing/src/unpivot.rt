@@ -46,8 +46,8 @@ fn has_measure(components: &[Component]) -> bool
 
 /// `unpivot identifier, measure`; `WrongType` where the measures are of several kinds, integer and number too, else
 /// `WrongStructure` where there is none, else `NameTwice` where a name is the other one or that of a component that stays,
-/// else `TooManyComponents` where the result would have more than 64, or want of memory. It costs the square of the number
-/// of names.
+/// else `TooManyComponents` where the result would have more than 64, or want of memory. It costs the number of the
+/// frame's components and names.
 pub fn unpivot_typed(
     alloc: Global,
     place: Place,
@@ -62,13 +62,15 @@ pub fn unpivot_typed(
     let after = unpivoted(alloc, identifier, measure, frame)?;
     let alike = are_alike(frame.components.as_slice());
     let some = has_measure(frame.components.as_slice());
+    let once = names_differ(alloc, &after)?;
+    let room = has_room(&after);
     demands(
         place,
         &[
             (alike, Fault::WrongType),
             (some, Fault::WrongStructure),
-            (names_differ(&after), Fault::NameTwice),
-            (has_room(&after), Fault::TooManyComponents),
+            (once, Fault::NameTwice),
+            (room, Fault::TooManyComponents),
         ],
     )?;
     Ok(CheckedClause::Unpivot {

@@ -1,6 +1,7 @@
-use Rattle.std.proofs.Common.{◌≡◌, drop}
-use Rattle.clause_trees.specs.Clauses.{all_differ, is_same_name}
+use Rattle.clause_trees.specs.Clauses.{is_same_name}
+use Rattle.clause_typing.specs.Keys.{full_name, name_of}
+use Rattle.clause_typing.proofs.Differing.{Seen}
 use Rattle.clause_typing.proofs.differ.names_differ.Given as goal
 
-abbrev pub invariant-loop-i : goal.invariant-loop-i
-invariant-loop-i l = all_differ is_same_name l.names ≡ all_differ is_same_name (drop l.i l.names)
+abbrev pub invariant-loop-name : goal.invariant-loop-name
+invariant-loop-name l = Seen is_same_name full_name name_of l.name-items l.name-index l.seen.keys

@@ -1,6 +1,7 @@
-use Rattle.std.proofs.Common.{◌≡◌, drop}
-use Rattle.clause_trees.specs.Clauses.{renamed_once}
+use Rattle.std.proofs.Common.{ℕ, nat_eq}
+use Rattle.clause_trees.specs.declared.clause.CheckedRename.{CheckedRename}
+use Rattle.clause_typing.proofs.Differing.{Seen}
 use Rattle.clause_typing.proofs.differ.renamed_once.Given as goal
 
-abbrev pub invariant-loop-i : goal.invariant-loop-i
-invariant-loop-i l = renamed_once l.renames ≡ renamed_once (drop l.i l.renames)
+abbrev pub invariant-loop-renaming : goal.invariant-loop-renaming
+invariant-loop-renaming l = Seen (λ (a b : CheckedRename). nat_eq a.component b.component) (λ r. r.component) (λ (n : ℕ). n) l.renames l.renaming-index l.seen.keys

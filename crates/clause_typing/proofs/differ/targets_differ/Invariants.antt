@@ -1,6 +1,8 @@
-use Rattle.std.proofs.Common.{◌≡◌, drop}
-use Rattle.clause_trees.specs.Clauses.{targets_differ}
+use Rattle.clause_trees.specs.declared.clause.CheckedItem.{CheckedItem}
+use Rattle.clause_trees.specs.Clauses.{is_same_target}
+use Rattle.clause_typing.specs.Keys.{target_of}
+use Rattle.clause_typing.proofs.Differing.{Seen}
 use Rattle.clause_typing.proofs.differ.targets_differ.Given as goal
 
-abbrev pub invariant-loop-i : goal.invariant-loop-i
-invariant-loop-i l = targets_differ l.items ≡ targets_differ (drop l.i l.items)
+abbrev pub invariant-loop-item : goal.invariant-loop-item
+invariant-loop-item l = Seen (λ (a b : CheckedItem). is_same_target a.target b.target) (λ i. i.target) target_of l.items l.item-index l.seen.keys

@@ -9,7 +9,7 @@ pub returns-clause-typed : goal.returns-clause-typed
 returns-clause-typed c =
     let alike = c.are_alike-alike.result in
     let some = c.has_measure-some.result in
-    let once = c.names_differ.result in
-    let room = c.has_room.result in
+    let once = c.in_ok-once.once in
+    let room = c.has_room-room.result in
     let holds = hold c.args.place ((alike, WrongType) ∷ (some, WrongStructure) ∷ (once, NameTwice) ∷ (room, TooManyComponents) ∷ []) c.in_ok-demands.field-0 c.in_ok-demands.ensures.ok in
     sym (c.are_alike-alike.ensures ∙ ap are_alike c.as_slice.ensures) ∙ left alike (some && (once && (room && true))) holds
