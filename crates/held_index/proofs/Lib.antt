@@ -9,3 +9,4 @@ pub mod PlanLemmas
 pub mod Rules
 pub mod Spans
 pub mod WalkLemmas
+pub mod WantLemmas

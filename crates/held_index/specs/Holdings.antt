@@ -1,5 +1,5 @@
 -- What is held of an operand, and how it is walked (docs/language.md, "Data sets").
-use Rattle.std.specs.Prelude.{◌≡◌, ℕ, ◌<◌, ◌&&◌, List, [], All, Bool, filter, Option, Some, None, length, slice_get, unwrap_or, refl}
+use Rattle.std.specs.Prelude.{◌≡◌, ℕ, ◌<◌, ◌&&◌, List, [], All, Bool, filter, map, Option, Some, None, length, slice_get, unwrap_or, refl}
 use Rattle.std.specs.Option.{IsSomeAnd}
 use Rattle.std.specs.Ordering.{is_lt, is_eq, eq_by_cmp}
 use Rattle.std.specs.Coded.{Coded, code_by, coded×}
@@ -28,6 +28,14 @@ holding_coded = code_by (Want × DataSet) (coded× (want.the_row).coded data_set
 pub record IsPlain (w : Want) : Type 0 where
   pub one_part : w.part ≡ []
   pub by_key : w.order ≡ []
+
+-- all that is held is one part each, in the order of the keys
+abbrev pub AllPlain : List Holding → Type 0
+AllPlain held = All (λ h. IsPlain h.want) held
+
+-- the data sets that are held
+abbrev pub contents : List Holding → List DataSet
+contents held = map (λ h. h.content) held
 
 -- the values of the kind are numbers
 abbrev pub IsNumeric : Kind → Type 0

@@ -8,3 +8,4 @@ pub mod Sums
 pub mod WalkLaws
 pub mod WalkedPoints
 pub mod Walks
+pub mod Wants

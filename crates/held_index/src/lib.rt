@@ -21,4 +21,4 @@ pub use draft::Draft;
 pub use held::{Held, Patch};
 pub use rule::DeltaRule;
 pub use stop::Stop;
-pub use want::{OrderItem, SumOf, Want};
+pub use want::{OrderItem, SumOf, Want, all_whole};

@@ -1,5 +1,5 @@
 -- Maps to which changes are applied, as lists.
-use Rattle.std.proofs.Common.{◌≡◌, ℕ, ◌+◌, ◌<◌, ◌≤◌, List, [], ◌∷◌, map, Option, Some, None, cond, sym, ◌∙◌, ap, refl, subst, T, length, get_or, drop, add-one, drop-cons, suc, inl, inr}
+use Rattle.std.proofs.Common.{◌≡◌, ℕ, ◌+◌, ◌<◌, ◌≤◌, List, [], ◌∷◌, map, Option, None, sym, ◌∙◌, ap, refl, T, length, get_or, drop, add-one, drop-cons, suc, inl, inr}
 use Rattle.std.specs.Option.{IfSome}
 use Rattle.std.specs.List.{AllByRecursion}
 use Rattle.std.specs.declared.cmp.Ordering.{Ordering}
@@ -9,7 +9,7 @@ use Rattle.std.specs.FinMap.{FinMap, IsAntisymmetric, get, find, from_entries, g
 use Rattle.std.proofs.lemmas.Bool.{cases_Bool}
 use Rattle.std.proofs.lemmas.List.{drop_all}
 use Rattle.data_model.specs.Maps.{put}
-use Rattle.data_model.specs.Deltas.{Pair, DeltaOf, after, apply, BeginsAt}
+use Rattle.data_model.specs.Deltas.{Pair, after, apply}
 use Rattle.data_model.proofs.DeltaLemmas.{get-apply}
 use Rattle.data_model.proofs.EntryLemmas.{find-later, is_sorted-rest}
 use Rattle.data_model.proofs.MapLemmas.{get-put, tied_to_itself}

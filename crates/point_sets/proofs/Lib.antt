@@ -2,6 +2,7 @@ pub mod Applied
 pub mod Changes
 pub mod Counts
 pub mod Edited
+pub mod Found
 pub mod Keys
 pub mod NotedLemmas
 pub mod Ordered

@@ -1,5 +1,5 @@
 -- The measure of items that aren't summed.
-use Rattle.std.specs.Prelude.{◌≡◌, ⊤, refl}
+use Rattle.std.specs.Prelude.{⊤, refl}
 use Rattle.ordered_tree.specs.Measures.{MonoidLaws, FitLaws}
 use Rattle.point_sets.specs.declared.measure.Unmeasured.{Unmeasured}
 

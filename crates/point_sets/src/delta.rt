@@ -3,9 +3,9 @@ ghost use Rattle.std.specs.Prelude.{◌≡◌, ◌≤◌, ◌++◌, ◌&&◌, ma
 ghost use Rattle.std.specs.Option.{option_copied, option_eq, option_map};
 ghost use Rattle.std.specs.List.{All};
 ghost use Rattle.std.specs.FinMap as finmap;
-ghost use Rattle.data_model.specs.Deltas.{Differs, Leads, composed, count_after};
+ghost use Rattle.data_model.specs.Deltas.{Differs, Leads, after, composed, count_after};
 ghost use Rattle.vtl_values.specs.Order.{key_cmp};
-ghost use Rattle.point_sets.specs.DataSets.{DataSet};
+ghost use Rattle.point_sets.specs.DataSets.{DataSet, HasKey};
 ghost use Rattle.point_sets.specs.Changes.{values_eq, values_of, change_entry, of_changes, entry_at, joined, IsChange, AreChanges, IsSamePoint};
 ghost use Rattle.point_sets.specs.Places.{below, above};
 
@@ -60,6 +60,22 @@ impl Delta {
         ensures differs { Differs self.now }
     {
         self.changes.as_slice()
+    }
+
+    /// The point that a key has after the delta, where the one that it had is given.
+    pub fn point_after<'a>(
+        &'a self,
+        key: &Key,
+        before: Option<&'a Arc<Point>>,
+    ) -> Option<&'a Arc<Point>>
+        ensures value { values_of (option_copied result) ≡ after (finmap.get self.now key.now) (values_of (option_copied before.entry)) }
+        ensures key { HasKey key.now (option_copied before.entry) → HasKey key.now (option_copied result) }
+    {
+        let changes = self.changes();
+        match changes.binary_search_by(|change| change.key.cmp(key)) {
+            Ok(place) => changes[place].new.as_ref(),
+            Err(_) => before,
+        }
     }
 
     /// How many points there are after the delta, of so many before.

@@ -1,5 +1,5 @@
 -- Data sets of a structure (docs/language.md, "Data sets").
-use Rattle.std.specs.Prelude.{◌≡◌, ◌≢◌, ◌≤◌, ℕ, List, filter, Bool, true, false, not}
+use Rattle.std.specs.Prelude.{◌≡◌, ◌≢◌, ◌≤◌, List, filter, Bool, true, false, not}
 use Rattle.std.specs.Option.{IfSome}
 use Rattle.std.specs.List.{AllZip, list_any}
 use Rattle.std.specs.FinMap.{get, len}

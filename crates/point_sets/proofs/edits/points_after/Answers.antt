@@ -1,4 +1,4 @@
-use Rattle.std.proofs.Common.{◌≡◌, ◌≤◌, rules, length, sym, ◌∙◌, arith, map}
+use Rattle.std.proofs.Common.{◌≤◌, length, sym, ◌∙◌, arith, map}
 use Rattle.vtl_values.proofs.Values.{key_cmp-IsTotalOrder, key_cmp-IsAntisymmetric}
 use Rattle.point_sets.specs.Changes.{change_entry}
 use Rattle.point_sets.specs.DataSets.{of_points}

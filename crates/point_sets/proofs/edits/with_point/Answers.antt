@@ -1,5 +1,5 @@
 use Rattle.std.specs.Arc.{arc_value}
-use Rattle.std.proofs.Common.{◌≡◌, IfOk, ap, sym, subst}
+use Rattle.std.proofs.Common.{◌≡◌}
 use Rattle.point_sets.specs.DataSets.{of_points, Ascend}
 use Rattle.std.specs.FinMap.{insert}
 use Rattle.point_sets.proofs.Points.{IfOk-as, ascend_over, ascend_beside, map_over, map_beside}

@@ -1,4 +1,4 @@
-use Rattle.std.proofs.Common.{◌≡◌, rules, sym, ◌∙◌, ap, map}
+use Rattle.std.proofs.Common.{◌≡◌, rules, sym, ◌∙◌, map}
 use Rattle.std.specs.Arc.{arc_value}
 use Rattle.point_sets.proofs.Points.{entries-of_points, entries_seen}
 use Rattle.point_sets.proofs.point_set.PointSet.points.Goals as goal
