@@ -13,16 +13,9 @@ use Rattle.vtl_syntax.specs.declared.expr.SubstrRange.{SubstrRange}
 use Rattle.vtl_syntax.specs.declared.expr.Clause.TheOpen.{Expr-F}
 use Rattle.vtl_syntax.specs.declared.expr.Clause.TheViews.{the_lemmas}
 use Rattle.vtl_syntax.specs.declared.words.AggregateFunction.{AggregateFunction}
-use Rattle.vtl_syntax.specs.declared.words.BinaryFunction.{BinaryFunction}
 use Rattle.vtl_syntax.specs.declared.words.CheckOutput.{CheckOutput}
-use Rattle.vtl_syntax.specs.declared.words.Comparison.{Comparison}
-use Rattle.vtl_syntax.specs.declared.words.DifferenceFunction.{DifferenceFunction}
-use Rattle.vtl_syntax.specs.declared.words.ExistsRows.{ExistsRows}
 use Rattle.vtl_syntax.specs.declared.words.JoinFunction.{JoinFunction}
-use Rattle.vtl_syntax.specs.declared.words.OrSign.{OrSign}
-use Rattle.vtl_syntax.specs.declared.words.ProductSign.{ProductSign}
 use Rattle.vtl_syntax.specs.declared.words.SetFunction.{SetFunction}
-use Rattle.vtl_syntax.specs.declared.words.SumSign.{SumSign}
 use Rattle.operator_faults.specs.declared.outline.Outline.{Outline}
 use Rattle.operator_faults.specs.Outlines.{inside, parts_if, one_if, joined_if, it, layer_parts, parts_of, outlined, clause_outlined, groups_outlined, item_outlined, operand_outlined, range_outlined}
 use Rattle.vtl_syntax.proofs.Maps.{maps-Substr, maps-Replace, maps-Join, maps-Aggregate, maps-Check}
@@ -66,30 +59,6 @@ opened x = search (rules, the_lemmas)
 
 rolled : (x : Expr-F Clause Expr Groups Item JoinOperand SubstrRange) (e : Expr) → roll-Expr x ≡ e → parts_of e ≡ layer_parts (mapped x)
 rolled x e is = ap parts_of (sym is) ∙ ap (λ (y : Expr-F Clause Expr Groups Item JoinOperand SubstrRange). layer_parts (mapped y)) (opened x)
-
-pub parts-Or : (a : Expr) (s : OrSign) (b : Expr) (p : Place) → parts_of (tree.Or a s b p) ≡ (outlined a ∷ []) ++ (outlined b ∷ [])
-parts-Or a s b p = rolled (Expr-F.Or a s b p) (tree.Or a s b p) (tree.rolls-Or a s b p)
-
-pub parts-And : (a : Expr) (b : Expr) (p : Place) → parts_of (tree.And a b p) ≡ (outlined a ∷ []) ++ (outlined b ∷ [])
-parts-And a b p = rolled (Expr-F.And a b p) (tree.And a b p) (tree.rolls-And a b p)
-
-pub parts-Compare : (a : Expr) (s : Comparison) (b : Expr) (p : Place) → parts_of (tree.Compare a s b p) ≡ (outlined a ∷ []) ++ (outlined b ∷ [])
-parts-Compare a s b p = rolled (Expr-F.Compare a s b p) (tree.Compare a s b p) (tree.rolls-Compare a s b p)
-
-pub parts-Sum : (a : Expr) (s : SumSign) (b : Expr) (p : Place) → parts_of (tree.Sum a s b p) ≡ (outlined a ∷ []) ++ (outlined b ∷ [])
-parts-Sum a s b p = rolled (Expr-F.Sum a s b p) (tree.Sum a s b p) (tree.rolls-Sum a s b p)
-
-pub parts-Product : (a : Expr) (s : ProductSign) (b : Expr) (p : Place) → parts_of (tree.Product a s b p) ≡ (outlined a ∷ []) ++ (outlined b ∷ [])
-parts-Product a s b p = rolled (Expr-F.Product a s b p) (tree.Product a s b p) (tree.rolls-Product a s b p)
-
-pub parts-Binary : (f : BinaryFunction) (a : Expr) (b : Expr) (p : Place) → parts_of (tree.Binary f a b p) ≡ (outlined a ∷ []) ++ (outlined b ∷ [])
-parts-Binary f a b p = rolled (Expr-F.Binary f a b p) (tree.Binary f a b p) (tree.rolls-Binary f a b p)
-
-pub parts-ExistsIn : (a : Expr) (b : Expr) (r : Option ExistsRows) (p : Place) → parts_of (tree.ExistsIn a b r p) ≡ (outlined a ∷ []) ++ (outlined b ∷ [])
-parts-ExistsIn a b r p = rolled (Expr-F.ExistsIn a b r p) (tree.ExistsIn a b r p) (tree.rolls-ExistsIn a b r p)
-
-pub parts-Difference : (f : DifferenceFunction) (a : Expr) (b : Expr) (p : Place) → parts_of (tree.Difference f a b p) ≡ (outlined a ∷ []) ++ (outlined b ∷ [])
-parts-Difference f a b p = rolled (Expr-F.Difference f a b p) (tree.Difference f a b p) (tree.rolls-Difference f a b p)
 
 pub parts-If : (c a b : Expr) (p : Place) → parts_of (tree.If c a b p) ≡ (outlined c ∷ []) ++ ((outlined a ∷ []) ++ (outlined b ∷ []))
 parts-If c a b p = rolled (Expr-F.If c a b p) (tree.If c a b p) (tree.rolls-If c a b p)

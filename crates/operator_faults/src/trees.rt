@@ -87,27 +87,32 @@ fn put_parts(alloc: Global, tree: &Expr, out: &mut Items<Outline>) -> Result<(),
             put(alloc, holds.get(), out)?;
             put(alloc, fails.get(), out)
         }
-        Expr::Or { left, right, .. } => {
-            put(alloc, left.get(), out)?;
-            put(alloc, right.get(), out)
-        }
-        Expr::And { left, right, .. } => {
-            put(alloc, left.get(), out)?;
-            put(alloc, right.get(), out)
-        }
-        Expr::Compare { left, right, .. } => {
-            put(alloc, left.get(), out)?;
-            put(alloc, right.get(), out)
-        }
+        Expr::Or { left, right, .. } => put_two(
+            outline_of(alloc, left.get())?,
+            outline_of(alloc, right.get())?,
+            out,
+        ),
+        Expr::And { left, right, .. } => put_two(
+            outline_of(alloc, left.get())?,
+            outline_of(alloc, right.get())?,
+            out,
+        ),
+        Expr::Compare { left, right, .. } => put_two(
+            outline_of(alloc, left.get())?,
+            outline_of(alloc, right.get())?,
+            out,
+        ),
         Expr::In { left, .. } => put(alloc, left.get(), out),
-        Expr::Sum { left, right, .. } => {
-            put(alloc, left.get(), out)?;
-            put(alloc, right.get(), out)
-        }
-        Expr::Product { left, right, .. } => {
-            put(alloc, left.get(), out)?;
-            put(alloc, right.get(), out)
-        }
+        Expr::Sum { left, right, .. } => put_two(
+            outline_of(alloc, left.get())?,
+            outline_of(alloc, right.get())?,
+            out,
+        ),
+        Expr::Product { left, right, .. } => put_two(
+            outline_of(alloc, left.get())?,
+            outline_of(alloc, right.get())?,
+            out,
+        ),
         Expr::Signed { operand, .. } => put(alloc, operand.get(), out),
         Expr::Member { operand, .. } => put(alloc, operand.get(), out),
         Expr::Clause {
@@ -123,10 +128,11 @@ fn put_parts(alloc: Global, tree: &Expr, out: &mut Items<Outline>) -> Result<(),
         Expr::Bracket { inner, .. } => put(alloc, inner.get(), out),
         Expr::Unary { operand, .. } => put(alloc, operand.get(), out),
         Expr::Round { operand, .. } => put(alloc, operand.get(), out),
-        Expr::Binary { left, right, .. } => {
-            put(alloc, left.get(), out)?;
-            put(alloc, right.get(), out)
-        }
+        Expr::Binary { left, right, .. } => put_two(
+            outline_of(alloc, left.get())?,
+            outline_of(alloc, right.get())?,
+            out,
+        ),
         Expr::Between { operand, .. } => put(alloc, operand.get(), out),
         Expr::MatchCharacters { operand, .. } => put(alloc, operand.get(), out),
         Expr::Substr { operand, range, .. } => {
@@ -143,10 +149,11 @@ fn put_parts(alloc: Global, tree: &Expr, out: &mut Items<Outline>) -> Result<(),
             put(alloc, pattern.get(), out)?;
             put_optional(alloc, by, out)
         }
-        Expr::ExistsIn { left, right, .. } => {
-            put(alloc, left.get(), out)?;
-            put(alloc, right.get(), out)
-        }
+        Expr::ExistsIn { left, right, .. } => put_two(
+            outline_of(alloc, left.get())?,
+            outline_of(alloc, right.get())?,
+            out,
+        ),
         Expr::Sets {
             first,
             second,
@@ -157,10 +164,11 @@ fn put_parts(alloc: Global, tree: &Expr, out: &mut Items<Outline>) -> Result<(),
             put(alloc, second.get(), out)?;
             each(alloc, others.as_slice(), out)
         }
-        Expr::Difference { left, right, .. } => {
-            put(alloc, left.get(), out)?;
-            put(alloc, right.get(), out)
-        }
+        Expr::Difference { left, right, .. } => put_two(
+            outline_of(alloc, left.get())?,
+            outline_of(alloc, right.get())?,
+            out,
+        ),
         Expr::Join { .. } => put_join(alloc, tree, out),
         Expr::Aggregate {
             operand,
@@ -200,6 +208,14 @@ fn put(alloc: Global, tree: &Expr, out: &mut Items<Outline>) -> Result<(), Alloc
 {
     let outline = outline_of(alloc, tree)?;
     out.push(outline)
+}
+
+/// Puts two outlines after those that are there.
+fn put_two(left: Outline, right: Outline, out: &mut Items<Outline>) -> Result<(), AllocError>
+    ensures { OnOk result (out.new ≡ out.old ++ left ∷ right ∷ []) }
+{
+    out.push(left)?;
+    out.push(right)
 }
 
 /// The same, if there is one.
@@ -350,7 +366,7 @@ fn put_join(alloc: Global, tree: &Expr, out: &mut Items<Outline>) -> Result<(), 
             put_joined(alloc, keep, out)?;
             put_joined(alloc, rename, out)
         }
-        _ => Ok(()),
+        _ => unreachable!(),
     }
 }
 

@@ -1,6 +1,6 @@
 -- What is known of a script without faults.
 use Rattle.std.proofs.Common.{◌≡◌, ◌⊎◌, inl, inr, ℕ, zero, suc, ◌+◌, ◌<◌, Bool, List, [], ◌∷◌, Option, Some, None, map, length, refl, sym, ap, ◌∙◌, subst, arith}
-use Rattle.std.specs.Prelude.{find, slice_get}
+use Rattle.std.specs.Prelude.{◌↔◌, find, slice_get}
 use Rattle.std.specs.Option.{option_map}
 use Rattle.std.proofs.lemmas.Option.{slice_get_cases}
 use Rattle.vtl_syntax.specs.declared.operator.DefinedOperator.{DefinedOperator}
@@ -12,7 +12,9 @@ use Rattle.operator_faults.specs.declared.outline.CallSite.{CallSite}
 use Rattle.shortest_cycles.specs.Firsts.{or_else, first_some}
 use Rattle.operator_faults.specs.Calls.{operator_of, sites, all_sites, is_wrong, earlier, first_call, told as told_call, wrong_in_script}
 use Rattle.operator_faults.specs.Bodies.{free_in_bodies}
+use Rattle.shortest_cycles.specs.Paths.{HasNoCycle}
 use Rattle.shortest_cycles.specs.Cycles.{count_from, comes_to, between, cycle_of, first_cycle}
+use Rattle.shortest_cycles.proofs.FirstCycles.{finds_none, none_first}
 use Rattle.operator_faults.specs.Faults.{of_names, of_calls, first_fault}
 use Rattle.operator_faults.specs.Recursions.{recursion, names_of, told_at}
 use Rattle.operator_faults.specs.Sketches.{of_operator, sketch_of}
@@ -66,6 +68,12 @@ is_told os c found none =
 no_cycle : (os : List DefinedOperator) → recursion os (map of_operator os) ≡ None → (r : Option (List ℕ)) → first_cycle (graph os) ≡ r → r ≡ None
 no_cycle os none None is = refl
 no_cycle os none (Some c) is = absurd (is_told os c is none)
+
+pub recursion_exact : (os : List DefinedOperator) → (recursion os (map of_operator os) ≡ None) ↔ HasNoCycle (graph os)
+recursion_exact os = (
+  λ none. finds_none (graph os) (no_cycle os none (first_cycle (graph os)) refl),
+  λ none. rw (none_first (graph os) none) refl,
+)
 
 -- ---- each call is of an operator
 

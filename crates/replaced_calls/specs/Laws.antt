@@ -1,14 +1,14 @@
 -- The laws of calls that are replaced.
-use Rattle.std.specs.Prelude.{◌≡◌, ℕ, suc, ◌+◌, List, Some, None, map, length, find}
+use Rattle.std.specs.Prelude.{◌≡◌, ◌↔◌, ℕ, suc, ◌+◌, List, Some, None, map, length, find}
 use Rattle.vtl_values.specs.declared.place.Place.{Place}
 use Rattle.vtl_syntax.specs.declared.expr.Expr.{Expr}
 use Rattle.vtl_syntax.specs.declared.operator.DefinedOperator.{DefinedOperator}
 use Rattle.operator_faults.specs.declared.calls.CallFault.TheVariants.{Unknown}
 use Rattle.operator_faults.specs.Calls.{operator_of, sites, is_wrong}
-use Rattle.shortest_cycles.specs.Paths.{Graph}
+use Rattle.shortest_cycles.specs.Paths.{Graph, HasNoCycle}
 use Rattle.shortest_cycles.specs.Cycles.{first_cycle}
 use Rattle.operator_faults.specs.Outlines.{outlined}
-use Rattle.operator_faults.specs.Recursions.{graph_of}
+use Rattle.operator_faults.specs.Recursions.{graph_of, recursion}
 use Rattle.operator_faults.specs.Sketches.{of_operator}
 use Rattle.replaced_calls.specs.Replacing.{opened, sorted, written}
 use Rattle.replaced_calls.specs.Scripts.{sorted_operators}
@@ -29,6 +29,10 @@ OrdersAgree = (operators : List DefinedOperator) (n : ℕ) → IsEnough operator
 -- which operator calls which
 abbrev pub graph : List DefinedOperator → Graph
 graph operators = graph_of operators (map of_operator operators)
+
+-- no recursion is told exactly where no operator reaches its own call
+abbrev pub RecursionIsExact : Type 0
+RecursionIsExact = (operators : List DefinedOperator) → (recursion operators (map of_operator operators) ≡ None) ↔ HasNoCycle (graph operators)
 
 -- where no operator reaches its own call, as many calls inside each other as there are operators are enough
 abbrev pub OperatorsEnd : Type 0

@@ -1,5 +1,5 @@
 // The laws of calls that are replaced.
-ghost use Rattle.replaced_calls.specs.Laws.{WritingsAdd, OrdersAgree, ChainsExist, OperatorsEnd, NoneLeft};
+ghost use Rattle.replaced_calls.specs.Laws.{WritingsAdd, OrdersAgree, ChainsExist, RecursionIsExact, OperatorsEnd, NoneLeft};
 ghost use Rattle.replaced_calls.specs.ScriptLaws.{ScriptOrdersAgree, ScriptChainsExist, ScriptNoneLeft};
 
 /// Calls that stand some levels inside each other are replaced at once or in two goes.
@@ -15,6 +15,11 @@ pub fn orders_agree()
 /// The calls of an expression can be replaced one after the other.
 pub fn chains_exist()
     ensures { ChainsExist }
+{}
+
+/// That an operator's body reaches its own call is told exactly where the calls have a cycle.
+pub fn recursion_is_exact()
+    ensures { RecursionIsExact }
 {}
 
 /// Where no operator reaches its own call, no more calls stand inside each other than there are operators.

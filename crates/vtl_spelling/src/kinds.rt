@@ -1,7 +1,7 @@
 // Kinds of tokens, each behind those that are there.
 ghost use Rattle.std.specs.Prelude.{◌≡◌, ◌++◌, OnOk};
 ghost use Rattle.std.specs.List.{flat_map};
-ghost use Rattle.vtl_spelling.specs.Kinds.{Kinds, ◌&◌, one, optional, separated};
+ghost use Rattle.vtl_spelling.specs.Kinds.{Kinds, ◌&◌, one, optional, commas, separated};
 ghost use Rattle.vtl_spelling.specs.Kinds as kinds;
 ghost use Rattle.vtl_spelling.specs.Words.{written};
 ghost use Rattle.vtl_tokens.specs.declared.token.TokenKind.{TokenKind};
@@ -161,6 +161,18 @@ pub(crate) fn separated<T: Spell>(
             each_behind(sign, rest, out)
         }
     }
+}
+
+/// A word and a list behind it, with commas.
+pub(crate) fn listed<T: Spell>(
+    word: Keyword,
+    items: &[T],
+    out: &mut Vec<TokenKind>,
+) -> Result<(), AllocError>
+    ensures { OnOk result (out.new.items ≡ out.old.items ++ (kinds.key word & commas T.spelled items.now)) }
+{
+    word.spell(out)?;
+    separated(Sign::Comma, items, out)
 }
 
 pub(crate) fn text(text: &Word, out: &mut Vec<TokenKind>) -> Result<(), AllocError>

@@ -4,7 +4,7 @@ ghost use Rattle.vtl_spelling.specs.Kinds.{◌&◌, key, optional, commas};
 ghost use Rattle.vtl_spelling.specs.Rulesets.{variable_spelled, label, condition_spelled, fault_spelled, signed_name_spelled, datapoint_rule_spelled, hierarchy_rule_spelled, datapoint_rules_spelled, hierarchy_rules_spelled, ruleset_spelled};
 
 use crate::calls::fault;
-use crate::kinds::{Spell, both, chosen, each, push, separated, worded, written};
+use crate::kinds::{Spell, both, chosen, each, listed, push, separated, worded, written};
 use crate::trees::expr;
 use sqlite_items::Items;
 use std::alloc::AllocError;
@@ -111,8 +111,7 @@ fn conditions(
     let Some(variables) = variables else {
         return Ok(());
     };
-    Keyword::Condition.spell(out)?;
-    separated(Sign::Comma, variables.as_slice(), out)
+    listed(Keyword::Condition, variables.as_slice(), out)
 }
 
 impl Spell for HierarchyRules {

@@ -9,7 +9,7 @@ use crate::calls::{
     check_output, count_all, datapoint_check, digits, fault, hierarchy, hierarchy_check, in_set,
     limits, offset, pattern, rank, rows, shift, span,
 };
-use crate::kinds::{FormWord, Spell, both, chosen, push, separated, worded};
+use crate::kinds::{FormWord, Spell, both, chosen, listed, push, worded};
 use crate::parts::unsigned;
 use sqlite_items::Boxed;
 use std::alloc::AllocError;
@@ -82,7 +82,7 @@ fn logical(tree: &Expr, out: &mut Vec<TokenKind>) -> Result<(), AllocError>
             before(left.get(), TokenKind::Reserved(Keyword::And), out)?;
             expr(right.get(), out)
         }
-        _ => Ok(()),
+        _ => unreachable!(),
     }
 }
 
@@ -120,7 +120,7 @@ fn infix(tree: &Expr, out: &mut Vec<TokenKind>) -> Result<(), AllocError>
             before(left.get(), sign.kind(), out)?;
             expr(right.get(), out)
         }
-        _ => Ok(()),
+        _ => unreachable!(),
     }
 }
 
@@ -159,7 +159,7 @@ fn form(tree: &Expr, out: &mut Vec<TokenKind>) -> Result<(), AllocError>
             expr(inner.get(), out)?;
             Sign::RightParen.spell(out)
         }
-        _ => Ok(()),
+        _ => unreachable!(),
     }
 }
 
@@ -202,7 +202,7 @@ fn tail(tree: &Expr, out: &mut Vec<TokenKind>) -> Result<(), AllocError>
             self::clause(clause.get(), out)?;
             Sign::RightBracket.spell(out)
         }
-        _ => Ok(()),
+        _ => unreachable!(),
     }
 }
 
@@ -263,7 +263,7 @@ fn one_operand(tree: &Expr, out: &mut Vec<TokenKind>) -> Result<(), AllocError>
             worded_call(Keyword::FillTimeSeries, operand.get(), out)?;
             self::span(span, out)
         }
-        _ => Ok(()),
+        _ => unreachable!(),
     }
 }
 
@@ -302,7 +302,7 @@ fn two_operands(tree: &Expr, out: &mut Vec<TokenKind>) -> Result<(), AllocError>
             next_operand(right.get(), out)?;
             self::rows(rows, out)
         }
-        _ => Ok(()),
+        _ => unreachable!(),
     }
 }
 
@@ -350,7 +350,7 @@ fn operands(tree: &Expr, out: &mut Vec<TokenKind>) -> Result<(), AllocError>
             self::arguments(arguments.as_slice(), out)?;
             Sign::RightParen.spell(out)
         }
-        _ => Ok(()),
+        _ => unreachable!(),
     }
 }
 
@@ -372,7 +372,7 @@ fn join(tree: &Expr, out: &mut Vec<TokenKind>) -> Result<(), AllocError>
         ..
     } = tree
     else {
-        return Ok(());
+        unreachable!()
     };
     push(function.kind(), out)?;
     Sign::LeftParen.spell(out)?;
@@ -422,7 +422,7 @@ fn aggregate(tree: &Expr, out: &mut Vec<TokenKind>) -> Result<(), AllocError>
             call(function.kind(), operand.get(), out)?;
             self::offset(*offset, over, out)
         }
-        _ => Ok(()),
+        _ => unreachable!(),
     }
 }
 
@@ -455,7 +455,7 @@ fn check(tree: &Expr, out: &mut Vec<TokenKind>) -> Result<(), AllocError>
             optional_imbalance(imbalance, out)?;
             check_output(output, out)
         }
-        _ => Ok(()),
+        _ => unreachable!(),
     }
 }
 
@@ -492,7 +492,7 @@ fn hierarchical(tree: &Expr, out: &mut Vec<TokenKind>) -> Result<(), AllocError>
             both(&Sign::Comma, ruleset, out)?;
             hierarchy_check(component, mode, input, output, out)
         }
-        _ => Ok(()),
+        _ => unreachable!(),
     }
 }
 
@@ -629,22 +629,10 @@ fn clause(clause: &Clause, out: &mut Vec<TokenKind>) -> Result<(), AllocError>
             Keyword::Calc.spell(out)?;
             self::items(items.as_slice(), out)
         }
-        Clause::Keep { components, .. } => {
-            Keyword::Keep.spell(out)?;
-            separated(Sign::Comma, components.as_slice(), out)
-        }
-        Clause::Drop { components, .. } => {
-            Keyword::Drop.spell(out)?;
-            separated(Sign::Comma, components.as_slice(), out)
-        }
-        Clause::Rename { renames, .. } => {
-            Keyword::Rename.spell(out)?;
-            separated(Sign::Comma, renames.as_slice(), out)
-        }
-        Clause::Sub { items, .. } => {
-            Keyword::Sub.spell(out)?;
-            separated(Sign::Comma, items.as_slice(), out)
-        }
+        Clause::Keep { components, .. } => listed(Keyword::Keep, components.as_slice(), out),
+        Clause::Drop { components, .. } => listed(Keyword::Drop, components.as_slice(), out),
+        Clause::Rename { renames, .. } => listed(Keyword::Rename, renames.as_slice(), out),
+        Clause::Sub { items, .. } => listed(Keyword::Sub, items.as_slice(), out),
         Clause::Unpivot {
             identifier,
             measure,

@@ -8,78 +8,6 @@ use Rattle.operator_faults.proofs.Parts as parts
 use Rattle.operator_faults.proofs.Parts.{then, last}
 use Rattle.operator_faults.proofs.trees.+outline.Goals as goal
 
-pub put_parts-returns-in_ok-put-in-Or : goal.put_parts-returns-in_ok-put-in-Or
-put_parts-returns-in_ok-put-in-Or t c =
-    let o = c.args.out.now in
-    let z = c.put-in-Or-2.new.out in
-    let x : List Outline = outlined c.get-in-Or.result.now ∷ [] in
-    let y : List Outline = outlined c.get-in-Or-2.result.now ∷ [] in
-    let is : parts_of c.args.tree.now ≡ x ++ y = rw (c.get-in-Or.ensures, c.get-in-Or-2.ensures, c.in-Or.is) (parts.parts-Or c.in-Or.left c.in-Or.sign c.in-Or.right c.in-Or.place) in
-    last c.put-in-Or-2.result o z (parts_of c.args.tree.now) (x ++ y) is (then c.put-in-Or-2.result o c.put-in-Or.new.out z x y (c.in_ok-put-in-Or.ensures {u = tt}) c.put-in-Or-2.ensures)
-
-pub put_parts-returns-in_ok-put-in-And : goal.put_parts-returns-in_ok-put-in-And
-put_parts-returns-in_ok-put-in-And t c =
-    let o = c.args.out.now in
-    let z = c.put-in-And-2.new.out in
-    let x : List Outline = outlined c.get-in-And.result.now ∷ [] in
-    let y : List Outline = outlined c.get-in-And-2.result.now ∷ [] in
-    let is : parts_of c.args.tree.now ≡ x ++ y = rw (c.get-in-And.ensures, c.get-in-And-2.ensures, c.in-And.is) (parts.parts-And c.in-And.left c.in-And.right c.in-And.place) in
-    last c.put-in-And-2.result o z (parts_of c.args.tree.now) (x ++ y) is (then c.put-in-And-2.result o c.put-in-And.new.out z x y (c.in_ok-put-in-And.ensures {u = tt}) c.put-in-And-2.ensures)
-
-pub put_parts-returns-in_ok-put-in-Compare : goal.put_parts-returns-in_ok-put-in-Compare
-put_parts-returns-in_ok-put-in-Compare t c =
-    let o = c.args.out.now in
-    let z = c.put-in-Compare-2.new.out in
-    let x : List Outline = outlined c.get-in-Compare.result.now ∷ [] in
-    let y : List Outline = outlined c.get-in-Compare-2.result.now ∷ [] in
-    let is : parts_of c.args.tree.now ≡ x ++ y = rw (c.get-in-Compare.ensures, c.get-in-Compare-2.ensures, c.in-Compare.is) (parts.parts-Compare c.in-Compare.left c.in-Compare.sign c.in-Compare.right c.in-Compare.place) in
-    last c.put-in-Compare-2.result o z (parts_of c.args.tree.now) (x ++ y) is (then c.put-in-Compare-2.result o c.put-in-Compare.new.out z x y (c.in_ok-put-in-Compare.ensures {u = tt}) c.put-in-Compare-2.ensures)
-
-pub put_parts-returns-in_ok-put-in-Sum : goal.put_parts-returns-in_ok-put-in-Sum
-put_parts-returns-in_ok-put-in-Sum t c =
-    let o = c.args.out.now in
-    let z = c.put-in-Sum-2.new.out in
-    let x : List Outline = outlined c.get-in-Sum.result.now ∷ [] in
-    let y : List Outline = outlined c.get-in-Sum-2.result.now ∷ [] in
-    let is : parts_of c.args.tree.now ≡ x ++ y = rw (c.get-in-Sum.ensures, c.get-in-Sum-2.ensures, c.in-Sum.is) (parts.parts-Sum c.in-Sum.left c.in-Sum.sign c.in-Sum.right c.in-Sum.place) in
-    last c.put-in-Sum-2.result o z (parts_of c.args.tree.now) (x ++ y) is (then c.put-in-Sum-2.result o c.put-in-Sum.new.out z x y (c.in_ok-put-in-Sum.ensures {u = tt}) c.put-in-Sum-2.ensures)
-
-pub put_parts-returns-in_ok-put-in-Product : goal.put_parts-returns-in_ok-put-in-Product
-put_parts-returns-in_ok-put-in-Product t c =
-    let o = c.args.out.now in
-    let z = c.put-in-Product-2.new.out in
-    let x : List Outline = outlined c.get-in-Product.result.now ∷ [] in
-    let y : List Outline = outlined c.get-in-Product-2.result.now ∷ [] in
-    let is : parts_of c.args.tree.now ≡ x ++ y = rw (c.get-in-Product.ensures, c.get-in-Product-2.ensures, c.in-Product.is) (parts.parts-Product c.in-Product.left c.in-Product.sign c.in-Product.right c.in-Product.place) in
-    last c.put-in-Product-2.result o z (parts_of c.args.tree.now) (x ++ y) is (then c.put-in-Product-2.result o c.put-in-Product.new.out z x y (c.in_ok-put-in-Product.ensures {u = tt}) c.put-in-Product-2.ensures)
-
-pub put_parts-returns-in_ok-put-in-Binary : goal.put_parts-returns-in_ok-put-in-Binary
-put_parts-returns-in_ok-put-in-Binary t c =
-    let o = c.args.out.now in
-    let z = c.put-in-Binary-2.new.out in
-    let x : List Outline = outlined c.get-in-Binary.result.now ∷ [] in
-    let y : List Outline = outlined c.get-in-Binary-2.result.now ∷ [] in
-    let is : parts_of c.args.tree.now ≡ x ++ y = rw (c.get-in-Binary.ensures, c.get-in-Binary-2.ensures, c.in-Binary.is) (parts.parts-Binary c.in-Binary.function c.in-Binary.left c.in-Binary.right c.in-Binary.place) in
-    last c.put-in-Binary-2.result o z (parts_of c.args.tree.now) (x ++ y) is (then c.put-in-Binary-2.result o c.put-in-Binary.new.out z x y (c.in_ok-put-in-Binary.ensures {u = tt}) c.put-in-Binary-2.ensures)
-
-pub put_parts-returns-in_ok-put-in-ExistsIn : goal.put_parts-returns-in_ok-put-in-ExistsIn
-put_parts-returns-in_ok-put-in-ExistsIn t c =
-    let o = c.args.out.now in
-    let z = c.put-in-ExistsIn-2.new.out in
-    let x : List Outline = outlined c.get-in-ExistsIn.result.now ∷ [] in
-    let y : List Outline = outlined c.get-in-ExistsIn-2.result.now ∷ [] in
-    let is : parts_of c.args.tree.now ≡ x ++ y = rw (c.get-in-ExistsIn.ensures, c.get-in-ExistsIn-2.ensures, c.in-ExistsIn.is) (parts.parts-ExistsIn c.in-ExistsIn.left c.in-ExistsIn.right c.in-ExistsIn.rows c.in-ExistsIn.place) in
-    last c.put-in-ExistsIn-2.result o z (parts_of c.args.tree.now) (x ++ y) is (then c.put-in-ExistsIn-2.result o c.put-in-ExistsIn.new.out z x y (c.in_ok-put-in-ExistsIn.ensures {u = tt}) c.put-in-ExistsIn-2.ensures)
-
-pub put_parts-returns-in_ok-put-in-Difference : goal.put_parts-returns-in_ok-put-in-Difference
-put_parts-returns-in_ok-put-in-Difference t c =
-    let o = c.args.out.now in
-    let z = c.put-in-Difference-2.new.out in
-    let x : List Outline = outlined c.get-in-Difference.result.now ∷ [] in
-    let y : List Outline = outlined c.get-in-Difference-2.result.now ∷ [] in
-    let is : parts_of c.args.tree.now ≡ x ++ y = rw (c.get-in-Difference.ensures, c.get-in-Difference-2.ensures, c.in-Difference.is) (parts.parts-Difference c.in-Difference.function c.in-Difference.left c.in-Difference.right c.in-Difference.place) in
-    last c.put-in-Difference-2.result o z (parts_of c.args.tree.now) (x ++ y) is (then c.put-in-Difference-2.result o c.put-in-Difference.new.out z x y (c.in_ok-put-in-Difference.ensures {u = tt}) c.put-in-Difference-2.ensures)
-
 pub put_parts-returns-in_ok-put-in-Clause : goal.put_parts-returns-in_ok-put-in-Clause
 put_parts-returns-in_ok-put-in-Clause t c =
     let o = c.args.out.now in
@@ -161,8 +89,8 @@ put_parts-each-requires t c =
     let m : most expr_size c.as_slice.result.now ≡ most expr_size c.in-Sets.others = ap (most expr_size) c.as_slice.ensures in
     (search (rules, the_lemmas, d, m), tt)
 
-pub put_join-returns-in_ok-put_joined-in-Join-3 : goal.put_join-returns-in_ok-put_joined-in-Join-3
-put_join-returns-in_ok-put_joined-in-Join-3 t c =
+pub put_join-returns : goal.put_join-returns
+put_join-returns t c =
     let r = c.put_joined-in-Join-3.result in
     let z = c.put_joined-in-Join-3.new.out in
     let o = c.args.out.now in

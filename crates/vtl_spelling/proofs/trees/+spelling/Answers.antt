@@ -11,10 +11,9 @@ use Rattle.vtl_syntax.specs.declared.expr.Item.{Item}
 use Rattle.vtl_spelling.specs.Kinds.{Kinds, ◌&◌, one, key, comma, commas, open_paren, close_paren, optional, name}
 use Rattle.vtl_grammar.specs.Words.{exists_rows}
 use Rattle.vtl_spelling.specs.Words.{written}
-use Rattle.vtl_spelling.specs.Parts.{comp_spelled, rename_spelled, sub_item_spelled}
 use Rattle.vtl_spelling.specs.Trees.{spelled, clause_spelled, groups_spelled, item_spelled, operand_spelled, range_spelled}
 use Rattle.vtl_spelling.proofs.ClausesTold.{spelling}
-use Rattle.vtl_spelling.proofs.Folds.{folded-Binary, folded-Difference, folded-ExistsIn, clause_folded-Keep, clause_folded-Drop, clause_folded-Rename, clause_folded-Sub, clause_folded-Unpivot}
+use Rattle.vtl_spelling.proofs.Folds.{folded-Binary, folded-Difference, folded-ExistsIn, clause_folded-Unpivot}
 use Rattle.vtl_spelling.proofs.Unfolded.{behind, behind_both, last, items-more, some-more, join-spelled, sets-spelled, substr-spelled, replace-spelled, call_of-spelled, calc-spelled, aggr-spelled}
 use Rattle.vtl_spelling.proofs.trees.+spelling.Goals as goal
 
@@ -26,42 +25,6 @@ clause-returns-in_ok-spell-in-Calc t c =
     let y : Kinds = commas item_spelled c.as_slice.result.now in
     let is : clause_spelled c.args.clause.now ≡ x0 ++ y = rw (c.as_slice.ensures, c.in-Calc.is) (calc-spelled c.in-Calc.items c.in-Calc.place) in
     last c.items.result o z (clause_spelled c.args.clause.now) (x0 ++ y) is (behind c.items.result o c.spell.new.out.items z x0 y (c.in_ok-spell-in-Calc.ensures {u = tt}) c.items.ensures)
-
-pub clause-returns-in_ok-spell-in-Keep : goal.clause-returns-in_ok-spell-in-Keep
-clause-returns-in_ok-spell-in-Keep t c =
-    let o = c.args.out.now.items in
-    let z = c.separated.new.out.items in
-    let x0 : Kinds = key words.Keep in
-    let y : Kinds = commas comp_spelled c.as_slice-in-Keep.result.now in
-    let is : clause_spelled c.args.clause.now ≡ x0 ++ y = rw (c.as_slice-in-Keep.ensures, c.in-Keep.is) (clause_folded-Keep spelling c.in-Keep.components c.in-Keep.place) in
-    last c.separated.result o z (clause_spelled c.args.clause.now) (x0 ++ y) is (behind c.separated.result o c.spell-in-Keep.new.out.items z x0 y (c.in_ok-spell-in-Keep.ensures {u = tt}) c.separated.ensures)
-
-pub clause-returns-in_ok-spell-in-Drop : goal.clause-returns-in_ok-spell-in-Drop
-clause-returns-in_ok-spell-in-Drop t c =
-    let o = c.args.out.now.items in
-    let z = c.separated-in-Drop.new.out.items in
-    let x0 : Kinds = key words.Drop in
-    let y : Kinds = commas comp_spelled c.as_slice-in-Drop.result.now in
-    let is : clause_spelled c.args.clause.now ≡ x0 ++ y = rw (c.as_slice-in-Drop.ensures, c.in-Drop.is) (clause_folded-Drop spelling c.in-Drop.components c.in-Drop.place) in
-    last c.separated-in-Drop.result o z (clause_spelled c.args.clause.now) (x0 ++ y) is (behind c.separated-in-Drop.result o c.spell-in-Drop.new.out.items z x0 y (c.in_ok-spell-in-Drop.ensures {u = tt}) c.separated-in-Drop.ensures)
-
-pub clause-returns-in_ok-spell-in-Rename : goal.clause-returns-in_ok-spell-in-Rename
-clause-returns-in_ok-spell-in-Rename t c =
-    let o = c.args.out.now.items in
-    let z = c.separated-in-Rename.new.out.items in
-    let x0 : Kinds = key words.Rename in
-    let y : Kinds = commas rename_spelled c.as_slice-in-Rename.result.now in
-    let is : clause_spelled c.args.clause.now ≡ x0 ++ y = rw (c.as_slice-in-Rename.ensures, c.in-Rename.is) (clause_folded-Rename spelling c.in-Rename.renames c.in-Rename.place) in
-    last c.separated-in-Rename.result o z (clause_spelled c.args.clause.now) (x0 ++ y) is (behind c.separated-in-Rename.result o c.spell-in-Rename.new.out.items z x0 y (c.in_ok-spell-in-Rename.ensures {u = tt}) c.separated-in-Rename.ensures)
-
-pub clause-returns-in_ok-spell-in-Sub : goal.clause-returns-in_ok-spell-in-Sub
-clause-returns-in_ok-spell-in-Sub t c =
-    let o = c.args.out.now.items in
-    let z = c.separated-in-Sub.new.out.items in
-    let x0 : Kinds = key words.Sub in
-    let y : Kinds = commas sub_item_spelled c.as_slice-in-Sub.result.now in
-    let is : clause_spelled c.args.clause.now ≡ x0 ++ y = rw (c.as_slice-in-Sub.ensures, c.in-Sub.is) (clause_folded-Sub spelling c.in-Sub.items c.in-Sub.place) in
-    last c.separated-in-Sub.result o z (clause_spelled c.args.clause.now) (x0 ++ y) is (behind c.separated-in-Sub.result o c.spell-in-Sub.new.out.items z x0 y (c.in_ok-spell-in-Sub.ensures {u = tt}) c.separated-in-Sub.ensures)
 
 pub clause-returns-in_ok-both-in-Unpivot : goal.clause-returns-in_ok-both-in-Unpivot
 clause-returns-in_ok-both-in-Unpivot t c =
