@@ -18,13 +18,13 @@ use Rattle.vtl_grammar.specs.Forms.{Tail, conditional, bracket, signed_form, lea
 use Rattle.vtl_grammar.specs.Reading.{Reader, mapped, form_at, tail_at}
 use Rattle.vtl_cursor.specs.Plain.{read_plain}
 use Rattle.vtl_parser.specs.declared.form.PrefixForm.{PrefixForm}
-use Rattle.vtl_parser.specs.declared.form.PrefixForm.TheVariants as head
+use Rattle.vtl_parser.specs.declared.form.PrefixForm.TheVariants as prefixes
 use Rattle.vtl_parser.specs.declared.form.OneOperand.{OneOperand}
 use Rattle.vtl_parser.specs.declared.form.OneOperand.TheVariants as one
 use Rattle.vtl_parser.specs.declared.form.TwoOperands.{TwoOperands}
 use Rattle.vtl_parser.specs.declared.form.TwoOperands.TheVariants as two
 use Rattle.vtl_parser.specs.declared.form.SuffixForm.{SuffixForm}
-use Rattle.vtl_parser.specs.declared.form.SuffixForm.TheVariants as link
+use Rattle.vtl_parser.specs.declared.form.SuffixForm.TheVariants as suffixes
 use Rattle.vtl_parser.specs.declared.form.Infix.{Infix}
 use Rattle.vtl_parser.specs.declared.form.Infix.TheVariants as infixes
 
@@ -116,19 +116,19 @@ window_of aggregate_word.Max = window_word.Max
 window_of aggregate_word.Median = window_word.Median
 
 abbrev pub prefix_form : PrefixForm → Form
-prefix_form head.If = conditional
-prefix_form head.Bracket = bracket
-prefix_form (head.Signed s) = signed_form s
-prefix_form (head.One c) = one_form c
-prefix_form (head.Two c) = two_form c
-prefix_form head.Substr = substr
-prefix_form head.Replace = replace
-prefix_form (head.Sets f) = sets f
-prefix_form (head.Join f) = join f
-prefix_form (head.Aggregate f) = aggregate f (window_of f)
-prefix_form head.Count = count
-prefix_form head.Rank = rank
-prefix_form head.Check = check
+prefix_form prefixes.If = conditional
+prefix_form prefixes.Bracket = bracket
+prefix_form (prefixes.Signed s) = signed_form s
+prefix_form (prefixes.One c) = one_form c
+prefix_form (prefixes.Two c) = two_form c
+prefix_form prefixes.Substr = substr
+prefix_form prefixes.Replace = replace
+prefix_form (prefixes.Sets f) = sets f
+prefix_form (prefixes.Join f) = join f
+prefix_form (prefixes.Aggregate f) = aggregate f (window_of f)
+prefix_form prefixes.Count = count
+prefix_form prefixes.Rank = rank
+prefix_form prefixes.Check = check
 
 -- ---- tails
 
@@ -148,11 +148,11 @@ infix_tree (infixes.Sum s) l r p = tree.Sum l s r p
 infix_tree (infixes.Product s) l r p = tree.Product l s r p
 
 abbrev pub suffix_tail : SuffixForm → Tail
-suffix_tail (link.Infix s) = record { precedence = infix_precedence s; operand = infix_precedence s; rule = expr (suc (infix_precedence s)); tree = λ l v p. infix_tree s l v p }
-suffix_tail (link.In s) = member_of_set s
-suffix_tail link.Call = call_of_name
-suffix_tail link.Member = record { precedence = 7; operand = 7; rule = name; tree = λ l v p. tree.Member l v.value p }
-suffix_tail link.Clause = record { precedence = 7; operand = 7; rule = clause_rule ▸ sig signs.RightBracket; tree = λ l v p. tree.Clause l (clause_of v.0) p }
+suffix_tail (suffixes.Infix s) = record { precedence = infix_precedence s; operand = infix_precedence s; rule = expr (suc (infix_precedence s)); tree = λ l v p. infix_tree s l v p }
+suffix_tail (suffixes.In s) = member_of_set s
+suffix_tail suffixes.Call = call_of_name
+suffix_tail suffixes.Member = record { precedence = 7; operand = 7; rule = name; tree = λ l v p. tree.Member l v.value p }
+suffix_tail suffixes.Clause = record { precedence = 7; operand = 7; rule = clause_rule ▸ sig signs.RightBracket; tree = λ l v p. tree.Clause l (clause_of v.0) p }
 
 -- the expression is a name
 abbrev pub IsName : Expr → Type 0

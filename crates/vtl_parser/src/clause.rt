@@ -6,7 +6,7 @@ ghost use Rattle.vtl_cursor.specs.Plain.{read_plain};
 ghost use Rattle.vtl_cursor.specs.Views.{GivesDeep, ShowsDeep};
 ghost use Rattle.vtl_parser.specs.Forms.{suffix_tail, read_tail};
 ghost use Rattle.vtl_parser.specs.Nested.{ReadsBelow};
-ghost use Rattle.vtl_parser.specs.declared.form.SuffixForm.TheVariants as links;
+ghost use Rattle.vtl_parser.specs.declared.form.SuffixForm.TheVariants as suffixes;
 
 use crate::parser::{ListItem, Parser};
 use crate::plain_clause::{drop_clause, keep_clause, rename_clause, sub_clause, unpivot_clause};
@@ -26,7 +26,7 @@ impl<F: Fn(Global, &mut Cursor<'_>, u8, u8) -> Result<(Boxed<Expr>, u8), Stop> +
         place: Place,
     ) -> Result<(Boxed<Expr>, u8), Stop>
         requires { ReadsBelow self.now.depth (F.pre self.now.expression) (F.post self.now.expression) }
-        ensures { GivesDeep cursor.new.tokens.now result (read_tail limits (below limits self.now.depth) (suffix_tail links.Clause) operand place cursor.old.tokens.now) }
+        ensures { GivesDeep cursor.new.tokens.now result (read_tail limits (below limits self.now.depth) (suffix_tail suffixes.Clause) operand place cursor.old.tokens.now) }
     {
         let (clause, levels) = self.clause(cursor)?;
         cursor.sign(Sign::RightBracket)?;

@@ -9,7 +9,7 @@ ghost use Rattle.vtl_cursor.specs.Plain.{read_plain};
 ghost use Rattle.vtl_cursor.specs.Views.{GivesDeep, Shows};
 ghost use Rattle.vtl_parser.specs.Forms.{one_rest, one_tree, two_rest, two_tree, suffix_tail, read_form, read_tail};
 ghost use Rattle.vtl_grammar.specs.Calls.{rank};
-ghost use Rattle.vtl_parser.specs.declared.form.SuffixForm.TheVariants as links;
+ghost use Rattle.vtl_parser.specs.declared.form.SuffixForm.TheVariants as suffixes;
 ghost use Rattle.vtl_parser.specs.declared.form.OneOperand.TheVariants as one;
 ghost use Rattle.vtl_parser.specs.declared.form.TwoOperands.TheVariants as two;
 
@@ -429,7 +429,7 @@ pub fn member_of_set(
     left: Boxed<Expr>,
     place: Place,
 ) -> Result<(Boxed<Expr>, u8), Stop>
-    ensures { GivesDeep cursor.new.tokens.now result (read_tail limits no_part (suffix_tail (links.In sign)) left place cursor.old.tokens.now) }
+    ensures { GivesDeep cursor.new.tokens.now result (read_tail limits no_part (suffix_tail (suffixes.In sign)) left place cursor.old.tokens.now) }
 {
     cursor.sign(Sign::LeftBrace)?;
     let set = commas::<Value>(alloc, cursor)?;
@@ -450,7 +450,7 @@ pub fn member(
     operand: Boxed<Expr>,
     place: Place,
 ) -> Result<(Boxed<Expr>, u8), Stop>
-    ensures { GivesDeep cursor.new.tokens.now result (read_tail limits no_part (suffix_tail links.Member) operand place cursor.old.tokens.now) }
+    ensures { GivesDeep cursor.new.tokens.now result (read_tail limits no_part (suffix_tail suffixes.Member) operand place cursor.old.tokens.now) }
 {
     let name = cursor.name()?;
     let expr = Expr::Member {

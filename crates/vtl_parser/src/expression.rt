@@ -9,11 +9,11 @@ ghost use Rattle.vtl_cursor.specs.Views.{GivesDeep, ShowsDeep};
 ghost use Rattle.vtl_parser.specs.Forms.{IsName, arguments_of, prefix_form, suffix_tail, read_form, read_tail};
 ghost use Rattle.vtl_parser.specs.Nested.{ReadsBelow};
 ghost use Rattle.vtl_parser.specs.Views.{GivesFront};
-ghost use Rattle.vtl_parser.specs.declared.form.SuffixForm.TheVariants as links;
+ghost use Rattle.vtl_parser.specs.declared.form.SuffixForm.TheVariants as suffixes;
 
 use crate::ending::{member, member_of_set, rank};
 use crate::form::{Infix, PrefixForm, SuffixForm};
-use crate::leaf::{call_of, head, joined, leaf, link};
+use crate::leaf::{call_of, joined, leaf, prefix_form_there, suffix_form_there};
 use crate::parser::Parser;
 use sqlite_items::{Boxed, Items};
 use std::alloc::Global;
@@ -63,10 +63,10 @@ impl<F: Fn(Global, &mut Cursor<'_>, u8, u8) -> Result<(Boxed<Expr>, u8), Stop> +
             cursor.skip();
             return Ok((leaf, own, 0));
         }
-        let Some((head, place)) = head(cursor) else {
+        let Some((prefix, place)) = prefix_form_there(cursor) else {
             return Err(Stop::At(Kind::Expected));
         };
-        let own = head.precedence();
+        let own = prefix.precedence();
         if own < precedence {
             return Err(Stop::At(Kind::Expected));
         }
@@ -74,7 +74,7 @@ impl<F: Fn(Global, &mut Cursor<'_>, u8, u8) -> Result<(Boxed<Expr>, u8), Stop> +
             return Err(Stop::At(Kind::TooDeep));
         }
         cursor.skip();
-        let (form, levels) = self.form(cursor, head, place)?;
+        let (form, levels) = self.form(cursor, prefix, place)?;
         Ok((form, own, levels + 1))
     }
 
@@ -92,18 +92,18 @@ impl<F: Fn(Global, &mut Cursor<'_>, u8, u8) -> Result<(Boxed<Expr>, u8), Stop> +
         requires name { 9 ≤ own → IsName front }
         ensures { GivesDeep cursor.new.tokens.now result (read_tails limits (below limits self.now.depth) self.now.depth precedence (suc (self.now.depth - levels)) (record { expr = front; precedence = own }) levels cursor.old.tokens.now) }
     {
-        let Some((link, place)) = link(cursor) else {
+        let Some((suffix, place)) = suffix_form_there(cursor) else {
             return Ok((front, levels));
         };
-        let next = link.precedence();
-        if next < precedence || own < link.operand() {
+        let next = suffix.precedence();
+        if next < precedence || own < suffix.operand() {
             return Ok((front, levels));
         }
         if levels == self.depth {
             return Err(Stop::At(Kind::TooDeep));
         }
         cursor.skip();
-        let (longer, inside) = self.tail(cursor, link, front, place)?;
+        let (longer, inside) = self.tail(cursor, suffix, front, place)?;
         self.tails(cursor, precedence, longer, next, levels.max(inside) + 1)
     }
 
@@ -111,13 +111,13 @@ impl<F: Fn(Global, &mut Cursor<'_>, u8, u8) -> Result<(Boxed<Expr>, u8), Stop> +
     fn form(
         &self,
         cursor: &mut Cursor<'_>,
-        head: PrefixForm,
+        prefix: PrefixForm,
         place: Place,
     ) -> Result<(Boxed<Expr>, u8), Stop>
         requires { ReadsBelow self.now.depth (F.pre self.now.expression) (F.post self.now.expression) }
-        ensures { GivesDeep cursor.new.tokens.now result (read_form limits (below limits self.now.depth) (prefix_form head) place cursor.old.tokens.now) }
+        ensures { GivesDeep cursor.new.tokens.now result (read_form limits (below limits self.now.depth) (prefix_form prefix) place cursor.old.tokens.now) }
     {
-        match head {
+        match prefix {
             PrefixForm::If => self.conditional(cursor, place),
             PrefixForm::Bracket => self.bracket(cursor, place),
             PrefixForm::Signed(sign) => self.signed(cursor, sign, place),
@@ -187,16 +187,16 @@ impl<F: Fn(Global, &mut Cursor<'_>, u8, u8) -> Result<(Boxed<Expr>, u8), Stop> +
     fn tail(
         &self,
         cursor: &mut Cursor<'_>,
-        link: SuffixForm,
+        suffix: SuffixForm,
         left: Boxed<Expr>,
         place: Place,
     ) -> Result<(Boxed<Expr>, u8), Stop>
         requires reads { ReadsBelow self.now.depth (F.pre self.now.expression) (F.post self.now.expression) }
         requires some { 0 < self.now.depth }
-        requires name { 9 ≤ (suffix_tail link).operand → IsName left }
-        ensures { GivesDeep cursor.new.tokens.now result (read_tail limits (below limits self.now.depth) (suffix_tail link) left place cursor.old.tokens.now) }
+        requires name { 9 ≤ (suffix_tail suffix).operand → IsName left }
+        ensures { GivesDeep cursor.new.tokens.now result (read_tail limits (below limits self.now.depth) (suffix_tail suffix) left place cursor.old.tokens.now) }
     {
-        match link {
+        match suffix {
             SuffixForm::Infix(sign) => self.infix(cursor, sign, left, place),
             SuffixForm::In(sign) => member_of_set(self.alloc, cursor, sign, left, place),
             SuffixForm::Call => self.call(cursor, left, place),
@@ -213,7 +213,7 @@ impl<F: Fn(Global, &mut Cursor<'_>, u8, u8) -> Result<(Boxed<Expr>, u8), Stop> +
         place: Place,
     ) -> Result<(Boxed<Expr>, u8), Stop>
         requires { ReadsBelow self.now.depth (F.pre self.now.expression) (F.post self.now.expression) }
-        ensures { GivesDeep cursor.new.tokens.now result (read_tail limits (below limits self.now.depth) (suffix_tail (links.Infix sign)) left place cursor.old.tokens.now) }
+        ensures { GivesDeep cursor.new.tokens.now result (read_tail limits (below limits self.now.depth) (suffix_tail (suffixes.Infix sign)) left place cursor.old.tokens.now) }
     {
         let (right, levels) = self.operand(cursor, sign.precedence() + 1)?;
         Ok((joined(self.alloc, sign, left, right, place)?, levels))
@@ -229,7 +229,7 @@ impl<F: Fn(Global, &mut Cursor<'_>, u8, u8) -> Result<(Boxed<Expr>, u8), Stop> +
         requires reads { ReadsBelow self.now.depth (F.pre self.now.expression) (F.post self.now.expression) }
         requires some { 0 < self.now.depth }
         requires name { IsName operator }
-        ensures { GivesDeep cursor.new.tokens.now result (read_tail limits (below limits self.now.depth) (suffix_tail links.Call) operator bracket cursor.old.tokens.now) }
+        ensures { GivesDeep cursor.new.tokens.now result (read_tail limits (below limits self.now.depth) (suffix_tail suffixes.Call) operator bracket cursor.old.tokens.now) }
     {
         let (arguments, levels) = self.arguments(cursor)?;
         Ok((call_of(self.alloc, operator.get(), arguments)?, levels))

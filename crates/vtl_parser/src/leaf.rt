@@ -63,8 +63,8 @@ fn literal(alloc: Global, value: Value, place: Place) -> Result<Option<Boxed<Exp
 }
 
 /// What begins there and is no leaf, and its place.
-pub fn head(cursor: &Cursor) -> Option<(PrefixForm, Place)>
-    ensures { option_map (λ h. (prefix_form h.0, h.1)) result ≡ form_there cursor.now.tokens.now }
+pub fn prefix_form_there(cursor: &Cursor) -> Option<(PrefixForm, Place)>
+    ensures { option_map (λ form. (prefix_form form.0, form.1)) result ≡ form_there cursor.now.tokens.now }
 {
     match cursor.tokens {
         [Token { what, place }, ..] => Some((prefix_form_of(what)?, *place)),
@@ -73,8 +73,8 @@ pub fn head(cursor: &Cursor) -> Option<(PrefixForm, Place)>
 }
 
 /// What goes on there after an expression, and its place.
-pub fn link(cursor: &Cursor) -> Option<(SuffixForm, Place)>
-    ensures { option_map (λ l. (suffix_tail l.0, l.1)) result ≡ tail_there cursor.now.tokens.now }
+pub fn suffix_form_there(cursor: &Cursor) -> Option<(SuffixForm, Place)>
+    ensures { option_map (λ form. (suffix_tail form.0, form.1)) result ≡ tail_there cursor.now.tokens.now }
 {
     match cursor.tokens {
         [Token { what, place }, ..] => Some((suffix_form_of(what)?, *place)),

@@ -19,25 +19,25 @@ returns-in-Some-clause-name g c = leaf-name c.args.cursor.now.tokens.now c.in-So
 pub returns-then-own-precedence-2-clause-read : goal.returns-then-own-precedence-2-clause-read
 returns-then-own-precedence-2-clause-read g c =
     let none : leaf_there c.args.cursor.now.tokens.now ≡ None = sym c.in_ok-leaf.ensures ∙ c.in_default.is in
-    low-read limits c.args.self.now.depth c.args.precedence (prefix_form c.in-Some-head.head) c.in-Some-head.place (below limits c.args.self.now.depth) c.args.cursor.now.tokens.now none (sym c.in-Some-head.ensures) (omega arith)
+    low-read limits c.args.self.now.depth c.args.precedence (prefix_form c.in-Some-prefix_form_there.prefix) c.in-Some-prefix_form_there.place (below limits c.args.self.now.depth) c.args.cursor.now.tokens.now none (sym c.in-Some-prefix_form_there.ensures) (omega arith)
 
 pub returns-then-self-eq0-clause-read : goal.returns-then-self-eq0-clause-read
 returns-then-self-eq0-clause-read g c =
     let none : leaf_there c.args.cursor.now.tokens.now ≡ None = sym c.in_ok-leaf.ensures ∙ c.in_default.is in
-    deep-read limits c.args.self.now.depth c.args.precedence (prefix_form c.in-Some-head.head) c.in-Some-head.place (below limits c.args.self.now.depth) c.args.cursor.now.tokens.now none (sym c.in-Some-head.ensures) (omega arith) (omega arith)
+    deep-read limits c.args.self.now.depth c.args.precedence (prefix_form c.in-Some-prefix_form_there.prefix) c.in-Some-prefix_form_there.place (below limits c.args.self.now.depth) c.args.cursor.now.tokens.now none (sym c.in-Some-prefix_form_there.ensures) (omega arith) (omega arith)
 
 pub returns-in_err-form-clause-read : goal.returns-in_err-form-clause-read
 returns-in_err-form-clause-read g c =
     let none : leaf_there c.args.cursor.now.tokens.now ≡ None = sym c.in_ok-leaf.ensures ∙ c.in_default.is in
     let p = err_from_is_err_and c.from_residual-in_err-form.result c.from_residual-in_err-form.ensures.1 in
     rw (p.1, p.2) (fails-too c.in_err-form.field-0.0 c.form.new.cursor.tokens.now _ _
-    (λ k is. front-halts limits c.args.self.now.depth c.args.precedence (prefix_form c.in-Some-head.head) c.in-Some-head.place (omega arith) (omega arith) c.args.cursor.now.tokens.now none (sym c.in-Some-head.ensures) k c.form.new.cursor.tokens.now is)
+    (λ k is. front-halts limits c.args.self.now.depth c.args.precedence (prefix_form c.in-Some-prefix_form_there.prefix) c.in-Some-prefix_form_there.place (omega arith) (omega arith) c.args.cursor.now.tokens.now none (sym c.in-Some-prefix_form_there.ensures) k c.form.new.cursor.tokens.now is)
     (rw c.skip-2.ensures at c.in_err-form.ensures))
 
 pub overflow_add-result : goal.overflow_add-result
 overflow_add-result g c =
     let none : leaf_there c.args.cursor.now.tokens.now ≡ None = sym c.in_ok-leaf.ensures ∙ c.in_default.is in
-    let read = front-goes limits c.args.self.now.depth c.args.precedence (prefix_form c.in-Some-head.head) c.in-Some-head.place (omega arith) (omega arith) c.args.cursor.now.tokens.now none (sym c.in-Some-head.ensures) c.in_ok-form.form c.in_ok-form.levels c.form.new.cursor.tokens.now (rw c.skip-2.ensures at c.in_ok-form.ensures) in
+    let read = front-goes limits c.args.self.now.depth c.args.precedence (prefix_form c.in-Some-prefix_form_there.prefix) c.in-Some-prefix_form_there.place (omega arith) (omega arith) c.args.cursor.now.tokens.now none (sym c.in-Some-prefix_form_there.ensures) c.in_ok-form.form c.in_ok-form.levels c.form.new.cursor.tokens.now (rw c.skip-2.ensures at c.in_ok-form.ensures) in
     let low : suc c.in_ok-form.levels ≤ c.args.self.now.depth = front-levels limits c.args.self.now.depth c.args.precedence c.args.cursor.now.tokens.now _ _ _ read in
     omega arith
 
@@ -45,8 +45,8 @@ pub returns-clause-read : goal.returns-clause-read
 returns-clause-read g c =
     let none : leaf_there c.args.cursor.now.tokens.now ≡ None = sym c.in_ok-leaf.ensures ∙ c.in_default.is in
     let more : suc c.in_ok-form.levels ≡ c.in_ok-form.levels + 1 = omega arith in
-    let same : (prefix_form c.in-Some-head.head).precedence ≡ c.precedence-own.result = cc in
-    rw (same, more) at (front-goes limits c.args.self.now.depth c.args.precedence (prefix_form c.in-Some-head.head) c.in-Some-head.place (omega arith) (omega arith) c.args.cursor.now.tokens.now none (sym c.in-Some-head.ensures) c.in_ok-form.form c.in_ok-form.levels c.form.new.cursor.tokens.now (rw c.skip-2.ensures at c.in_ok-form.ensures))
+    let same : (prefix_form c.in-Some-prefix_form_there.prefix).precedence ≡ c.precedence-own.result = cc in
+    rw (same, more) at (front-goes limits c.args.self.now.depth c.args.precedence (prefix_form c.in-Some-prefix_form_there.prefix) c.in-Some-prefix_form_there.place (omega arith) (omega arith) c.args.cursor.now.tokens.now none (sym c.in-Some-prefix_form_there.ensures) c.in_ok-form.form c.in_ok-form.levels c.form.new.cursor.tokens.now (rw c.skip-2.ensures at c.in_ok-form.ensures))
 
 pub returns-clause-name : goal.returns-clause-name
 returns-clause-name g c = λ high. absurd (omega arith)
