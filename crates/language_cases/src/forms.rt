@@ -1,246 +1,149 @@
-// Expressions: what a form has besides its place, with the heads of its parts.
-use crate::clauses::{push_clause, push_groups, push_join_clause, push_operand};
-use crate::heads::{
-    head, push_choice, push_head, push_heads, push_name, push_number, push_optional, push_place,
-    push_value, push_word,
-};
-use crate::parts::push_over;
+// Expressions: a form with its place, with each part in brackets.
+use crate::endings::push_ending;
+use crate::fields::{push_at, push_integer, push_label, push_name, push_place, push_word};
+use crate::own_words::{place_and_name, push_own_word};
+use crate::parts::{push_comps, push_grouping, push_renames, push_sub_items};
 use sqlite_items::Boxed;
 use std::alloc::AllocError;
-use vtl_syntax::Expr;
-use vtl_values::{Integer, Place, Word};
-
-fn push_two(out: &mut String, left: &Expr, right: &Expr) -> Result<(), AllocError> {
-    push_head(out, left)?;
-    push_head(out, right)
-}
+use vtl_syntax::{Clause, Expr, Groups, Item, JoinOperand, SubstrRange};
 
 /// `LINE:COLUMN FORM ..`
+#[cycle(forms)]
 pub fn push_form(out: &mut String, tree: &Expr) -> Result<(), AllocError> {
-    let (place, form) = head(tree);
+    let (place, form) = place_and_name(tree);
     push_place(out, place)?;
     out.push_str(form)?;
-    match tree {
-        Expr::If {
-            condition,
-            holds,
-            fails,
-            ..
-        } => {
-            push_two(out, condition.get(), holds.get())?;
-            push_head(out, fails.get())
-        }
-        Expr::Or {
-            left,
-            sign,
-            right,
-            ..
-        } => {
-            push_choice(out, sign)?;
-            push_two(out, left.get(), right.get())
-        }
-        Expr::And { left, right, .. } => push_two(out, left.get(), right.get()),
-        Expr::Compare {
-            left,
-            sign,
-            right,
-            ..
-        } => {
-            push_choice(out, sign)?;
-            push_two(out, left.get(), right.get())
-        }
-        Expr::Sum {
-            left,
-            sign,
-            right,
-            ..
-        } => {
-            push_choice(out, sign)?;
-            push_two(out, left.get(), right.get())
-        }
-        Expr::Product {
-            left,
-            sign,
-            right,
-            ..
-        } => {
-            push_choice(out, sign)?;
-            push_two(out, left.get(), right.get())
-        }
-        _ => push_tail(out, tree),
-    }
+    push_own_word(out, tree)?;
+    push_first(out, tree)?;
+    push_second(out, tree)?;
+    push_more(out, tree)?;
+    push_ending(out, tree)
 }
 
-// Forms of one operand that are no calls, and leaves.
-fn push_tail(out: &mut String, tree: &Expr) -> Result<(), AllocError> {
-    match tree {
-        Expr::In {
-            left,
-            sign,
-            set,
-            ..
-        } => {
-            push_choice(out, sign)?;
-            push_head(out, left.get())?;
-            for value in set.as_slice() {
-                push_value(out, value)?;
-            }
-            Ok(())
-        }
-        Expr::Signed { sign, operand, .. } => {
-            push_choice(out, sign)?;
-            push_head(out, operand.get())
-        }
-        Expr::Member { operand, name, .. } => {
-            push_word(out, name)?;
-            push_head(out, operand.get())
-        }
-        Expr::Clause {
-            operand,
-            clause,
-            ..
-        } => {
-            push_head(out, operand.get())?;
-            push_clause(out, clause.get())
-        }
-        Expr::Bracket { inner, .. } => push_head(out, inner.get()),
-        Expr::Literal { value, .. } => push_value(out, value),
-        Expr::Name { name, .. } => push_word(out, name),
-        Expr::CountAll { .. } => Ok(()),
-        _ => push_call(out, tree),
-    }
+/// ` (LINE:COLUMN FORM ..)`
+#[cycle(forms)]
+pub fn push_part(out: &mut String, tree: &Expr) -> Result<(), AllocError> {
+    out.push_str(" (")?;
+    push_form(out, tree)?;
+    out.push_str(")")
 }
 
-// Calls of scalars, and of data sets without more.
-fn push_call(out: &mut String, tree: &Expr) -> Result<(), AllocError> {
-    match tree {
-        Expr::Unary {
-            function,
-            operand,
-            ..
-        } => {
-            push_choice(out, function)?;
-            push_head(out, operand.get())
-        }
-        Expr::Round {
-            function,
-            operand,
-            digits,
-            ..
-        } => {
-            push_choice(out, function)?;
-            push_head(out, operand.get())?;
-            push_integer(out, "digits", digits)
-        }
-        Expr::Binary {
-            function,
-            left,
-            right,
-            ..
-        } => {
-            push_choice(out, function)?;
-            push_two(out, left.get(), right.get())
-        }
-        Expr::Between {
-            operand,
-            low,
-            high,
-            ..
-        } => {
-            push_head(out, operand.get())?;
-            push_value(out, low)?;
-            push_value(out, high)
-        }
-        Expr::MatchCharacters {
-            operand,
-            pattern,
-            ..
-        } => {
-            push_head(out, operand.get())?;
-            write!(out, " {:?}", pattern.as_str())
-        }
-        Expr::Difference {
-            function,
-            left,
-            right,
-            ..
-        } => {
-            push_choice(out, function)?;
-            push_two(out, left.get(), right.get())
-        }
-        Expr::ExistsIn {
-            left,
-            right,
-            rows,
-            ..
-        } => {
-            push_two(out, left.get(), right.get())?;
-            match rows {
-                Some(rows) => push_choice(out, rows),
-                None => Ok(()),
-            }
-        }
-        _ => push_list_call(out, tree),
+#[cycle(forms)]
+fn push_each(out: &mut String, trees: &[Expr]) -> Result<(), AllocError> {
+    for tree in trees {
+        push_part(out, tree)?;
     }
+    Ok(())
 }
 
-fn push_integer(
-    out: &mut String,
-    label: &str,
-    integer: &Option<Integer>,
-) -> Result<(), AllocError> {
-    match integer {
-        Some(integer) => push_number(out, label, *integer),
-        None => Ok(()),
-    }
-}
-
-// The form of an optional part.
+// ` LABEL` and the part, or nothing.
+#[cycle(forms)]
 fn push_boxed(out: &mut String, label: &str, tree: &Option<Boxed<Expr>>) -> Result<(), AllocError> {
     match tree {
-        Some(tree) => push_optional(out, label, Some(tree.get())),
+        Some(tree) => {
+            push_label(out, label)?;
+            push_part(out, tree.get())
+        }
         None => Ok(()),
     }
 }
 
-// Calls with parts that may be left out or repeated.
-fn push_list_call(out: &mut String, tree: &Expr) -> Result<(), AllocError> {
+/// ` LABEL` and the part, or nothing.
+pub fn push_optional(out: &mut String, label: &str, tree: &Option<Expr>) -> Result<(), AllocError> {
     match tree {
-        Expr::Substr { operand, range, .. } => {
-            push_head(out, operand.get())?;
-            match range {
-                Some(range) => {
-                    write!(out, " {}:{}", range.place.line, range.place.column)?;
-                    push_optional(out, "from", Some(range.start.get()))?;
-                    push_boxed(out, "length", &range.length)
-                }
-                None => Ok(()),
-            }
+        Some(tree) => {
+            push_label(out, label)?;
+            push_part(out, tree)
         }
-        Expr::Replace {
-            operand,
-            pattern,
-            by,
+        None => Ok(()),
+    }
+}
+
+// Its first operand, where it has operands.
+#[cycle(forms)]
+fn push_first(out: &mut String, tree: &Expr) -> Result<(), AllocError> {
+    match tree {
+        Expr::If { condition, .. } => push_part(out, condition.get()),
+        Expr::Or { left, .. } => push_part(out, left.get()),
+        Expr::And { left, .. } => push_part(out, left.get()),
+        Expr::Compare { left, .. } => push_part(out, left.get()),
+        Expr::In { left, .. } => push_part(out, left.get()),
+        Expr::Sum { left, .. } => push_part(out, left.get()),
+        Expr::Product { left, .. } => push_part(out, left.get()),
+        Expr::Signed { operand, .. } => push_part(out, operand.get()),
+        Expr::Member { operand, .. } => push_part(out, operand.get()),
+        Expr::Clause { operand, .. } => push_part(out, operand.get()),
+        Expr::Bracket { inner, .. } => push_part(out, inner.get()),
+        Expr::Unary { operand, .. } => push_part(out, operand.get()),
+        Expr::Round { operand, .. } => push_part(out, operand.get()),
+        Expr::Binary { left, .. } => push_part(out, left.get()),
+        Expr::Between { operand, .. } => push_part(out, operand.get()),
+        Expr::MatchCharacters { operand, .. } => push_part(out, operand.get()),
+        Expr::Substr { operand, .. } => push_part(out, operand.get()),
+        Expr::Replace { operand, .. } => push_part(out, operand.get()),
+        Expr::ExistsIn { left, .. } => push_part(out, left.get()),
+        Expr::Sets { first, .. } => push_part(out, first.get()),
+        Expr::Difference { left, .. } => push_part(out, left.get()),
+        Expr::Join { first, .. } => push_joined(out, first.get()),
+        Expr::Aggregate { operand, .. } => push_part(out, operand.get()),
+        Expr::Window { operand, .. } => push_part(out, operand.get()),
+        Expr::Offset { operand, .. } => push_part(out, operand.get()),
+        Expr::CheckDatapoint { operand, .. } => push_part(out, operand.get()),
+        Expr::Hierarchy { operand, .. } => push_part(out, operand.get()),
+        Expr::CheckHierarchy { operand, .. } => push_part(out, operand.get()),
+        Expr::Check { operand, .. } => push_part(out, operand.get()),
+        Expr::Time { operand, .. } => push_part(out, operand.get()),
+        Expr::Timeshift { operand, .. } => push_part(out, operand.get()),
+        Expr::FillTimeSeries { operand, .. } => push_part(out, operand.get()),
+        Expr::Typed { expr, .. } => push_part(out, expr.get()),
+        _ => Ok(()),
+    }
+}
+
+// The operands after it that it always has, if there are any.
+#[cycle(forms)]
+fn push_second(out: &mut String, tree: &Expr) -> Result<(), AllocError> {
+    match tree {
+        Expr::If { holds, fails, .. } => {
+            push_part(out, holds.get())?;
+            push_part(out, fails.get())
+        }
+        Expr::Or { right, .. } => push_part(out, right.get()),
+        Expr::And { right, .. } => push_part(out, right.get()),
+        Expr::Compare { right, .. } => push_part(out, right.get()),
+        Expr::Sum { right, .. } => push_part(out, right.get()),
+        Expr::Product { right, .. } => push_part(out, right.get()),
+        Expr::Binary { right, .. } => push_part(out, right.get()),
+        Expr::Replace { pattern, .. } => push_part(out, pattern.get()),
+        Expr::ExistsIn { right, .. } => push_part(out, right.get()),
+        Expr::Sets { second, .. } => push_part(out, second.get()),
+        Expr::Difference { right, .. } => push_part(out, right.get()),
+        Expr::Join { second, .. } => push_joined(out, second.get()),
+        _ => Ok(()),
+    }
+}
+
+// The parts that are many or may be left out, and what has parts of its own.
+#[cycle(forms)]
+fn push_more(out: &mut String, tree: &Expr) -> Result<(), AllocError> {
+    match tree {
+        Expr::Clause { clause, .. } => push_clause(out, clause.get()),
+        Expr::Substr { range, .. } => push_range(out, range),
+        Expr::Replace { by, .. } => push_boxed(out, "by", by),
+        Expr::Sets { others, .. } => push_each(out, others.as_slice()),
+        Expr::CallOf { arguments, .. } => push_each(out, arguments.as_slice()),
+        Expr::Aggregate { groups, .. } => push_groups(out, groups),
+        Expr::Check {
+            code,
+            level,
+            imbalance,
             ..
         } => {
-            push_two(out, operand.get(), pattern.get())?;
-            push_boxed(out, "by", by)
-        }
-        Expr::Sets {
-            function,
-            first,
-            second,
-            others,
-            ..
-        } => {
-            push_choice(out, function)?;
-            push_two(out, first.get(), second.get())?;
-            push_heads(out, others.as_slice())
+            push_name(out, "code", code)?;
+            push_integer(out, "level", level)?;
+            push_boxed(out, "imbalance", imbalance)
         }
         Expr::Join {
-            function,
-            first,
-            second,
             others,
             filter,
             calc,
@@ -248,161 +151,133 @@ fn push_list_call(out: &mut String, tree: &Expr) -> Result<(), AllocError> {
             rename,
             ..
         } => {
-            push_choice(out, function)?;
-            push_operand(out, first.get())?;
-            push_operand(out, second.get())?;
-            for operand in others.as_slice() {
-                push_operand(out, operand)?;
-            }
+            push_each_joined(out, others.as_slice())?;
             push_join_clause(out, filter)?;
             push_join_clause(out, calc)?;
             push_join_clause(out, keep)?;
             push_join_clause(out, rename)
         }
-        _ => push_group_call(out, tree),
-    }
-}
-
-// Aggregates and analytic functions.
-fn push_group_call(out: &mut String, tree: &Expr) -> Result<(), AllocError> {
-    match tree {
-        Expr::Aggregate {
-            function,
-            operand,
-            groups,
-            ..
-        } => {
-            push_choice(out, function)?;
-            push_head(out, operand.get())?;
-            push_groups(out, groups)
-        }
-        Expr::Window {
-            function,
-            operand,
-            over,
-            ..
-        } => {
-            push_choice(out, function)?;
-            push_head(out, operand.get())?;
-            push_over(out, over)
-        }
-        Expr::Offset {
-            function,
-            operand,
-            offset,
-            over,
-            ..
-        } => {
-            push_choice(out, function)?;
-            push_head(out, operand.get())?;
-            push_number(out, "by", *offset)?;
-            push_over(out, over)
-        }
-        Expr::Rank { over, .. } => push_over(out, over),
-        _ => push_check(out, tree),
-    }
-}
-
-// The name of a ruleset with its place.
-fn push_ruleset(out: &mut String, name: &Word, place: Place) -> Result<(), AllocError> {
-    out.push_str(" (")?;
-    push_place(out, place)?;
-    write!(out, "ruleset {})", name.as_str())
-}
-
-// Checks and hierarchies.
-fn push_check(out: &mut String, tree: &Expr) -> Result<(), AllocError> {
-    match tree {
-        Expr::CheckDatapoint {
-            operand,
-            ruleset,
-            ruleset_place,
-            output,
-            ..
-        } => {
-            push_head(out, operand.get())?;
-            push_ruleset(out, ruleset, *ruleset_place)?;
-            push_choice(out, output)
-        }
-        Expr::Hierarchy {
-            operand,
-            ruleset,
-            ruleset_place,
-            component,
-            mode,
-            input,
-            output,
-            ..
-        } => {
-            push_head(out, operand.get())?;
-            push_ruleset(out, ruleset, *ruleset_place)?;
-            push_name(out, "rule", component)?;
-            push_choice(out, mode)?;
-            push_choice(out, input)?;
-            push_choice(out, output)
-        }
-        Expr::CheckHierarchy {
-            operand,
-            ruleset,
-            ruleset_place,
-            component,
-            mode,
-            input,
-            output,
-            ..
-        } => {
-            push_head(out, operand.get())?;
-            push_ruleset(out, ruleset, *ruleset_place)?;
-            push_name(out, "rule", component)?;
-            push_choice(out, mode)?;
-            push_choice(out, input)?;
-            push_choice(out, output)
-        }
-        Expr::Check {
-            operand,
-            code,
-            level,
-            imbalance,
-            output,
-            ..
-        } => {
-            push_head(out, operand.get())?;
-            push_name(out, "code", code)?;
-            push_integer(out, "level", level)?;
-            push_boxed(out, "imbalance", imbalance)?;
-            push_choice(out, output)
-        }
-        _ => push_new_call(out, tree),
-    }
-}
-
-// Calls on time series, and of defined operators. A script that is read has no `Typed`.
-fn push_new_call(out: &mut String, tree: &Expr) -> Result<(), AllocError> {
-    match tree {
-        Expr::Time {
-            function,
-            operand,
-            ..
-        } => {
-            push_choice(out, function)?;
-            push_head(out, operand.get())
-        }
-        Expr::Timeshift { operand, shift, .. } => {
-            push_head(out, operand.get())?;
-            push_number(out, "by", *shift)
-        }
-        Expr::FillTimeSeries { operand, span, .. } => {
-            push_head(out, operand.get())?;
-            push_choice(out, span)
-        }
-        Expr::CallOf {
-            name,
-            arguments,
-            ..
-        } => {
-            push_word(out, name)?;
-            push_heads(out, arguments.as_slice())
-        }
         _ => Ok(()),
     }
+}
+
+#[cycle(forms)]
+fn push_range(out: &mut String, range: &Option<SubstrRange>) -> Result<(), AllocError> {
+    match range {
+        Some(range) => {
+            push_at(out, range.place, "from")?;
+            push_part(out, range.start.get())?;
+            push_boxed(out, "length", &range.length)
+        }
+        None => Ok(()),
+    }
+}
+
+// ` [LINE:COLUMN operand ..]`, an operand of a join.
+#[cycle(forms)]
+fn push_joined(out: &mut String, operand: &JoinOperand) -> Result<(), AllocError> {
+    out.push_str(" [")?;
+    push_place(out, operand.place)?;
+    out.push_str("operand")?;
+    push_part(out, operand.expr.get())?;
+    push_name(out, "as", &operand.alias)?;
+    out.push_str("]")
+}
+
+#[cycle(forms)]
+fn push_each_joined(out: &mut String, operands: &[JoinOperand]) -> Result<(), AllocError> {
+    for operand in operands {
+        push_joined(out, operand)?;
+    }
+    Ok(())
+}
+
+// A clause of a join, where it has one.
+#[cycle(forms)]
+fn push_join_clause(out: &mut String, clause: &Option<Boxed<Clause>>) -> Result<(), AllocError> {
+    match clause {
+        Some(clause) => push_clause(out, clause.get()),
+        None => Ok(()),
+    }
+}
+
+// ` LINE:COLUMN CLAUSE ..`
+#[cycle(forms)]
+fn push_clause(out: &mut String, clause: &Clause) -> Result<(), AllocError> {
+    match clause {
+        Clause::Filter { condition, place } => {
+            push_at(out, *place, "Filter")?;
+            push_part(out, condition.get())
+        }
+        Clause::Calc { items, place } => {
+            push_at(out, *place, "Calc")?;
+            push_items(out, items.as_slice())
+        }
+        Clause::Keep { components, place } => {
+            push_at(out, *place, "Keep")?;
+            push_comps(out, components.as_slice())
+        }
+        Clause::Drop { components, place } => {
+            push_at(out, *place, "Drop")?;
+            push_comps(out, components.as_slice())
+        }
+        Clause::Rename { renames, place } => {
+            push_at(out, *place, "Rename")?;
+            push_renames(out, renames.as_slice())
+        }
+        Clause::Sub { items, place } => {
+            push_at(out, *place, "Sub")?;
+            push_sub_items(out, items.as_slice())
+        }
+        Clause::Unpivot {
+            identifier,
+            measure,
+            place,
+        } => {
+            push_at(out, *place, "Unpivot")?;
+            push_word(out, identifier)?;
+            push_word(out, measure)
+        }
+        Clause::Aggr {
+            items,
+            groups,
+            place,
+        } => {
+            push_at(out, *place, "Aggr")?;
+            push_items(out, items.as_slice())?;
+            push_groups(out, groups)
+        }
+    }
+}
+
+#[cycle(forms)]
+fn push_items(out: &mut String, items: &[Item]) -> Result<(), AllocError> {
+    for item in items {
+        push_item(out, item)?;
+    }
+    Ok(())
+}
+
+#[cycle(forms)]
+fn push_item(out: &mut String, item: &Item) -> Result<(), AllocError> {
+    out.push_str(" (")?;
+    push_place(out, item.place)?;
+    if let Some(role) = &item.role {
+        write!(out, "{role:?} ")?;
+    }
+    out.push_str(item.name.as_str())?;
+    push_part(out, item.expr.get())?;
+    out.push_str(")")
+}
+
+// A grouping, and its `having`.
+#[cycle(forms)]
+fn push_groups(out: &mut String, groups: &Option<Boxed<Groups>>) -> Result<(), AllocError> {
+    let Some(groups) = groups else {
+        return Ok(());
+    };
+    let groups = groups.get();
+    push_at(out, groups.place, "groups")?;
+    push_grouping(out, &groups.grouping)?;
+    push_boxed(out, "having", &groups.having)
 }

@@ -10,9 +10,10 @@
 #![tactic(auto)]
 
 mod answers;
-mod clauses;
+mod endings;
+mod fields;
 mod forms;
-mod heads;
+mod own_words;
 mod parts;
 mod scripts;
 

@@ -1,5 +1,5 @@
 // Parts of forms in which no expression stands.
-use crate::heads::{push_choice, push_name, push_place, push_value, push_word};
+use crate::fields::{push_choice, push_name, push_place, push_value, push_word};
 use std::alloc::AllocError;
 use vtl_syntax::{Comp, Grouping, OrderItem, Over, Rename, SubItem, Variable};
 use vtl_values::Word;

@@ -1,8 +1,6 @@
 // The tree of a script: a line for each statement, ruleset, rule and operator.
-use crate::forms::push_form;
-use crate::heads::{
-    push_choice, push_head, push_name, push_number, push_optional, push_place, push_word,
-};
+use crate::fields::{push_choice, push_integer, push_name, push_place, push_word};
+use crate::forms::{push_form, push_optional, push_part};
 use crate::parts::push_variables;
 use anyhow::Result;
 use std::alloc::{AllocError, Global};
@@ -62,8 +60,8 @@ fn push_datapoint_rule(out: &mut String, rule: &DatapointRule) -> Result<(), All
     push_place(out, rule.place)?;
     out.push_str("rule")?;
     push_name(out, "named", &rule.name)?;
-    push_optional(out, "when", rule.condition.as_ref())?;
-    push_head(out, &rule.expr)?;
+    push_optional(out, "when", &rule.condition)?;
+    push_part(out, &rule.expr)?;
     push_fault(out, &rule.fault)
 }
 
@@ -72,7 +70,7 @@ fn push_hierarchy_rule(out: &mut String, rule: &HierarchyRule) -> Result<(), All
     push_place(out, rule.place)?;
     out.push_str("rule")?;
     push_name(out, "named", &rule.name)?;
-    push_optional(out, "when", rule.condition.as_ref())?;
+    push_optional(out, "when", &rule.condition)?;
     push_word(out, &rule.left)?;
     push_choice(out, &rule.relation)?;
     if let Some(sign) = &rule.sign {
@@ -92,10 +90,7 @@ fn push_fault(out: &mut String, fault: &FaultPart) -> Result<(), AllocError> {
     push_place(out, fault.place)?;
     out.push_str("fault")?;
     push_name(out, "code", &fault.code)?;
-    match &fault.level {
-        Some(level) => push_number(out, "level", *level),
-        None => Ok(()),
-    }
+    push_integer(out, "level", &fault.level)
 }
 
 fn push_operator(out: &mut String, operator: &DefinedOperator) -> Result<(), AllocError> {
