@@ -19,7 +19,7 @@ use Rattle.data_set_trees.specs.declared.tree.DataSetOperator.TheVariants as ope
 use Rattle.data_set_trees.specs.Components.{unlisted}
 use Rattle.data_set_trees.specs.Trees.{applied, with_clause}
 use Rattle.checked_trees.specs.Expressions.{Expression, Expressions, Named, Applied, none, more, expressions, name_step, node_step, expression_of}
-use Rattle.checked_trees.specs.Operators.{an_operator, Operator, IsTypedIfSaid}
+use Rattle.checked_trees.specs.Operators.{an_operator, Operator, TakesOperands}
 use Rattle.checked_trees.specs.Scripts.{names_in, names_in_all}
 use Rattle.checked_trees.specs.Typing.{Fits, AllFit}
 use Rattle.fitting_trees.specs.Fitting.{IsFitting}
@@ -55,14 +55,14 @@ module _ (structures : Source → Option (List Component)) (among : Source → T
   name-fits source structure has may =
       let is = sym (expression_of-name source) in
       record {
-        fits = subst (λ (e : Expression Source). Fits IsTypedIfSaid structures e structure) is has;
+        fits = subst (λ (e : Expression Source). Fits TakesOperands structures e structure) is has;
         named = subst (λ (e : Expression Source). All among (names_in e)) is (All-cons among source [] may (All-nil among));
       }
 
   abbrev IsFit : DataSet → Type 0
   IsFit d = IsFitting structures among d
 
-  all-fit : (ds : List DataSet) → All IsFit ds → AllFit IsTypedIfSaid structures (parts ds) (map (λ (d : DataSet). d.structure) ds)
+  all-fit : (ds : List DataSet) → All IsFit ds → AllFit TakesOperands structures (parts ds) (map (λ (d : DataSet). d.structure) ds)
   all-fit [] all = tt
   all-fit (d ∷ ds) all = ((All-head IsFit d ds all).fits, all-fit ds (All-tail IsFit d ds all))
 
@@ -70,11 +70,11 @@ module _ (structures : Source → Option (List Component)) (among : Source → T
   all-named [] all = All-nil among
   all-named (d ∷ ds) all = All-append among (names_in (expression_of d.tree)) (names_in_all (parts ds)) (All-head IsFit d ds all).named (all-named ds (All-tail IsFit d ds all))
 
-  pub applied-fits : (o : DataSetOperator) (place : Place) (ds : List DataSet) (structure : List Component) → All IsFit ds → IsTypedIfSaid (operator_of o ds structure) → IsFitting structures among (applied o place ds structure)
+  pub applied-fits : (o : DataSetOperator) (place : Place) (ds : List DataSet) (structure : List Component) → All IsFit ds → TakesOperands (operator_of o ds structure) → IsFitting structures among (applied o place ds structure)
   applied-fits o place ds structure all takes =
       let is = sym (expression_of-applied o place ds structure) in
       record {
-        fits = subst (λ (e : Expression Source). Fits IsTypedIfSaid structures e structure) is (refl, takes, all-fit ds all);
+        fits = subst (λ (e : Expression Source). Fits TakesOperands structures e structure) is (refl, takes, all-fit ds all);
         named = subst (λ (e : Expression Source). All among (names_in e)) is (all-named ds all);
       }
 

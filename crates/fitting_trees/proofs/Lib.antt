@@ -6,4 +6,6 @@ pub mod Lifted
 pub mod Pairs
 pub mod Choices
 pub mod Rows
+pub mod Unnamed
+pub mod Joins
 pub mod Expressions

@@ -60,7 +60,7 @@ use Rattle.fitting_trees.proofs.Scalars.{answered, refused-never, gave}
 -- ---- what was answered
 
 -- what is there was not refused
-or-given : {A : Type 0} (o : Option A) (fault : Fault) (place : Place) (x : A) → or_refused o fault place ≡ Ok x → o ≡ Some x
+pub or-given : {A : Type 0} (o : Option A) (fault : Fault) (place : Place) (x : A) → or_refused o fault place ≡ Ok x → o ≡ Some x
 or-given None fault place x e = cc
 or-given (Some y) fault place x e = cc
 
@@ -69,7 +69,7 @@ demanded-holds : (b : Bool) (fault : Fault) (place : Place) (u : Unit {0}) → d
 demanded-holds true fault place u e = refl
 demanded-holds false fault place u e = cc
 
-demands-hold : (place : Place) (ds : List (Bool × Fault)) (u : Unit {0}) → demands place ds ≡ Ok u → list_all (λ d. d.0) ds ≡ true
+pub demands-hold : (place : Place) (ds : List (Bool × Fault)) (u : Unit {0}) → demands place ds ≡ Ok u → list_all (λ d. d.0) ds ≡ true
 demands-hold place [] u e = refl
 demands-hold place (d ∷ ds) u e =
     let first = gave (demanded d.0 d.1 place) (λ met. demands place ds) u e in
@@ -98,7 +98,7 @@ module _ (structures : Source → Option (List Component)) (among : Source → T
   sets-fit (operand.Scalar t ∷ os) all = sets-fit os (All-tail IsFit (operand.Scalar t) os all)
   sets-fit (operand.DataSet d ∷ os) all = All-cons SetFits d (data_sets os) (All-head IsFit (operand.DataSet d) os all) (sets-fit os (All-tail IsFit (operand.DataSet d) os all))
 
-  given-fits : (given o : Operand) → IsFit given → ◌≡◌ {A = SetAnswer} (Ok given) (Ok o) → IsFit o
+  pub given-fits : (given o : Operand) → IsFit given → ◌≡◌ {A = SetAnswer} (Ok given) (Ok o) → IsFit o
   given-fits given o h e = subst IsFit (answered given o e) h
 
   -- ---- a scalar operator
@@ -203,7 +203,7 @@ module _ (structures : Source → Option (List Component)) (among : Source → T
   exists-fits which place (operand.Scalar s) (operand.DataSet t) h i o e = cc
   exists-fits which place (operand.DataSet s) (operand.Scalar t) h i o e = cc
 
-  all_sets-fit : (os : List Operand) (ds : List DataSet) → All IsFit os → all_data_sets os ≡ Some ds → All SetFits ds
+  pub all_sets-fit : (os : List Operand) (ds : List DataSet) → All IsFit os → all_data_sets os ≡ Some ds → All SetFits ds
   all_sets-fit [] ds all e = let none : [] ≡ ds = cc in subst (All SetFits) none (All-nil SetFits)
   all_sets-fit (operand.Scalar t ∷ os) ds all e = cc
   all_sets-fit (operand.DataSet d ∷ os) ds all e = by_others (all_data_sets os) (λ others i. all_sets-fit os others (All-tail IsFit (operand.DataSet d) os all) i) e

@@ -5,11 +5,11 @@ use Rattle.vtl_values.specs.declared.structure.Component.{Component}
 use Rattle.data_set_trees.specs.declared.operand.DataSet.{DataSet}
 use Rattle.data_set_trees.specs.declared.tree.Source.{Source}
 use Rattle.checked_trees.specs.Expressions.{expression_of}
-use Rattle.checked_trees.specs.Operators.{IsTypedIfSaid}
+use Rattle.checked_trees.specs.Operators.{TakesOperands}
 use Rattle.checked_trees.specs.Scripts.{names_in}
 use Rattle.checked_trees.specs.Typing.{Fits}
 
 -- a data set whose operators take what their operands have and are well typed on them, and that names none but these
 pub record IsFitting (structures : Source → Option (List Component)) (among : Source → Type 0) (d : DataSet) : Type 0 where
-  pub fits : Fits IsTypedIfSaid structures (expression_of d.tree) d.structure
+  pub fits : Fits TakesOperands structures (expression_of d.tree) d.structure
   pub named : All among (names_in (expression_of d.tree))

@@ -27,7 +27,7 @@ use Rattle.data_set_trees.specs.Expressions.{Naming, typed}
 use Rattle.data_set_trees.specs.Trees.{SetAnswer}
 use Rattle.checked_trees.specs.declared.script.CheckedStatement.{CheckedStatement}
 use Rattle.checked_trees.specs.Expressions.{Expression, Named, name_step, node_step, expression_of}
-use Rattle.checked_trees.specs.Operators.{IsTypedIfSaid}
+use Rattle.checked_trees.specs.Operators.{TakesOperands}
 use Rattle.checked_trees.specs.Scripts.{Script, IsOneOf, FollowOperands, FitsStatement, IsTypedScript, names_in, names_of, structure_of_source}
 use Rattle.checked_trees.specs.Typing.{Fits}
 use Rattle.fitting_trees.specs.Fitting.{IsFitting}
@@ -123,7 +123,7 @@ module _ (script : Script) where
 
   name_fits : (among : Source → Type 0) (s : Source) (structure : List Component) → structures s ≡ Some structure → among s → IsFitting structures among (from s structure)
   name_fits among s structure at one = record {
-    fits = subst (λ (e : Expression Source). Fits IsTypedIfSaid structures e structure) (sym (name-is s)) at;
+    fits = subst (λ (e : Expression Source). Fits TakesOperands structures e structure) (sym (name-is s)) at;
     named = subst (λ (e : Expression Source). All among (names_in e)) (sym (name-is s)) (All-cons among s [] one (All-nil among));
   }
 
@@ -149,7 +149,7 @@ module _ (script : Script) where
   module _ (law : TypingFits) (g : Graph) (ts : List Statement) (ranges : AreInRange ts) (end : List State) (none : NoFault end) (told : (k : ℕ) (t : Statement) (d : DataSet) → slice_get ts k ≡ Some t → slice_get end k ≡ Some (Has d) → slice_get script.statements k ≡ Some (with_set t d)) where
     record Fitted (done rest : List ℕ) : Type 0 where
       pub follows : FollowOperands script done rest
-      pub fit : (k : ℕ) (d : DataSet) → Contains rest k → slice_get end k ≡ Some (Has d) → Fits IsTypedIfSaid structures (expression_of d.tree) d.structure
+      pub fit : (k : ℕ) (d : DataSet) → Contains rest k → slice_get end k ≡ Some (Has d) → Fits TakesOperands structures (expression_of d.tree) d.structure
 
     fitted : (done rest : List ℕ) (s : SoFar) → Meets g ts done rest s → end ≡ (after_all g ts rest s).states → FitNames done s.naming → Fitted done rest
     fitted done [] s m is names = record { follows = tt; fit = λ k d c h. absurd (let less = c.1 in omega arith) }
@@ -169,7 +169,7 @@ module _ (script : Script) where
           fit = λ k d c h. elim (Contains-append_cases (i ∷ []) is k c) [
             | inl one ↦ elim (Contains-push_cases [] i k one) [
               | inl old ↦ absurd (let less = old.1 in omega arith)
-              | inr same ↦ subst (λ (x : DataSet). Fits IsTypedIfSaid structures (expression_of x.tree) x.structure) (same_has n.d d (sym has ∙ ap (slice_get end) same ∙ h)) fit.fits
+              | inr same ↦ subst (λ (x : DataSet). Fits TakesOperands structures (expression_of x.tree) x.structure) (same_has n.d d (sym has ∙ ap (slice_get end) same ∙ h)) fit.fits
             ]
             | inr more ↦ rest.fit k d more h
           ];
@@ -208,7 +208,7 @@ module _ (law : TypingFits) (inputs : NamedStructures) (g : Graph) (ts : List St
             let h = have k within in
             let t = there ts k within in
             let at = sets-at ts end have k t.0 h.0 t.1 h.1 in
-            subst (FitsStatement IsTypedIfSaid script) (sym (get_or_from_slice_get (with_sets ts end) k (with_set t.0 h.0) other at)) (done.fit k h.0 (among k within) h.1);
+            subst (FitsStatement TakesOperands script) (sym (get_or_from_slice_get (with_sets ts end) k (with_set t.0 h.0) other at)) (done.fit k h.0 (among k within) h.1);
         ordered = record {
           all = o.all ∙ all ∙ sym long;
           below = subst (λ (n : ℕ). All (λ i. i < n) order) (all ∙ sym long) o.below;

@@ -1,0 +1,146 @@
+// Data sets in a join.
+ghost use Rattle.std.specs.Prelude.{◌≡◌, ◌∷◌, ◌+◌, ◌<◌, ◌≤◌, [], true, map, length, IfOk, MatchOption};
+ghost use Rattle.clause_trees.specs.Clauses.{MOST_COMPONENTS};
+ghost use Rattle.data_set_trees.specs.Components as parts;
+ghost use Rattle.data_set_trees.specs.Joins as meant;
+ghost use Rattle.data_set_trees.specs.Trees as trees;
+ghost use Rattle.data_set_trees.specs.declared.tree.DataSetOperator.TheVariants as operator;
+ghost use Rattle.join_typing.specs.Inside.{FitInside, EachFits};
+ghost use Rattle.join_typing.specs.Joining as own;
+
+use crate::joining::Placed;
+use clause_trees::Frame;
+use clause_typing::frame_after;
+use data_set_parts::components::unlisted;
+use data_set_parts::nodes::applied;
+use data_set_parts::results::listed_unlisted;
+use data_set_trees::{DataSet, DataSetOperator};
+use sqlite_items::Items;
+use std::alloc::{AllocError, Global};
+use vtl_values::{Component, Structure, Word};
+
+/// A number as the name of a component, in one character.
+fn digit(alloc: Global, number: usize) -> Result<Word, AllocError>
+    requires { number < 64 }
+    ensures { IfOk result (λ name. name ≡ (48 + number) ∷ []) }
+{
+    let mut text = String::new(alloc);
+    text.push((48 + number as u8) as char)?;
+    Ok(Word::from(text))
+}
+
+fn numbered_one(
+    alloc: Global,
+    number: usize,
+    component: &Component,
+) -> Result<Component, AllocError>
+    requires { number < 64 }
+    ensures { IfOk result (λ made. made ≡ record (parts.unlisted component.now) { name = (48 + number) ∷ [] }) }
+{
+    let Component {
+        name: _,
+        role,
+        kind,
+        codes,
+    } = unlisted(component)?;
+    Ok(Component {
+        name: digit(alloc, number)?,
+        role,
+        kind,
+        codes,
+    })
+}
+
+/// The components without their code lists, called by their numbers. Or want of memory.
+fn numbered(alloc: Global, components: &[Component]) -> Result<Vec<Component>, AllocError>
+    requires { length components.now ≤ MOST_COMPONENTS }
+    ensures { IfOk result (λ list. list.items ≡ meant.numbered 0 (map parts.unlisted components.now)) }
+{
+    let mut list = Vec::new(alloc);
+    for (i, component) in components.iter().enumerate() {
+        list.push(numbered_one(alloc, i, component)?)?;
+    }
+    Ok(list)
+}
+
+fn numbered_structure(alloc: Global, components: &[Component]) -> Result<Structure, AllocError>
+    requires { FitInside components.now }
+    ensures { IfOk result (λ structure. structure ≡ meant.numbered 0 (map parts.unlisted components.now)) }
+{
+    let list = numbered(alloc, components)?;
+    Structure::of(alloc, list)
+}
+
+fn named_structure(alloc: Global, components: &[Component]) -> Result<Structure, AllocError>
+    requires fit { FitInside components.now }
+    requires differ { parts.names_differ components.now ≡ true }
+    ensures { IfOk result (λ structure. structure ≡ map parts.unlisted components.now) }
+{
+    let list = listed_unlisted(alloc, components)?;
+    Structure::of(alloc, list)
+}
+
+/// What a data set in a join has where these clauses follow. Or want of memory.
+pub(crate) fn structure_before(
+    alloc: Global,
+    clauses: &[Placed],
+    frame: &Frame,
+) -> Result<Structure, AllocError>
+    requires fits { EachFits (map own.placed clauses.now) frame.now }
+    requires differ { own.DifferAtEnd (map own.placed clauses.now) frame.now }
+    ensures { IfOk result (λ structure. structure ≡ meant.structure_before (map own.placed clauses.now) frame.now) }
+{
+    match clauses {
+        [] => named_structure(alloc, frame.components.as_slice()),
+        [_, ..] => numbered_structure(alloc, frame.components.as_slice()),
+    }
+}
+
+fn take_clause(clauses: &mut Items<Placed>) -> Option<Placed>
+    ensures { MatchOption result ((clauses.old ≡ []) × (clauses.new ≡ [])) (λ first. clauses.old ≡ first ∷ clauses.new) }
+{
+    if clauses.len() == 0 {
+        return None;
+    }
+    Some(clauses.remove(0))
+}
+
+/// The clause on a data set of a join, which has this structure afterwards. Or want of memory.
+fn in_join(
+    alloc: Global,
+    placed: Placed,
+    set: DataSet,
+    structure: Structure,
+) -> Result<DataSet, AllocError>
+    ensures { IfOk result (λ after. after ≡ trees.applied (operator.InJoin placed.clause) placed.place (set ∷ []) structure) }
+{
+    let Placed { clause, place } = placed;
+    let mut sets = Items::new(alloc);
+    sets.push(set)?;
+    applied(
+        alloc,
+        DataSetOperator::InJoin(clause),
+        place,
+        sets,
+        structure,
+    )
+}
+
+/// The clauses on a data set of a join whose frame is this one. Or want of memory.
+pub(crate) fn with_clauses(
+    alloc: Global,
+    mut clauses: Items<Placed>,
+    mut frame: Frame,
+    mut set: DataSet,
+) -> Result<DataSet, AllocError>
+    requires fits { EachFits (map own.placed clauses) frame }
+    requires differ { own.DifferAtEnd (map own.placed clauses) frame }
+    ensures { IfOk result (λ after. after ≡ meant.with_clauses (map own.placed clauses) frame set) }
+{
+    while let Some(placed) = take_clause(&mut clauses) {
+        frame = frame_after(alloc, &placed.clause, frame)?;
+        let structure = structure_before(alloc, clauses.as_slice(), &frame)?;
+        set = in_join(alloc, placed, set, structure)?;
+    }
+    Ok(set)
+}

@@ -1,0 +1,23 @@
+// A join on its way.
+use clause_trees::{CheckedClause, Frame};
+use data_set_trees::DataSet;
+use sqlite_items::Items;
+use vtl_syntax::words::JoinFunction;
+use vtl_values::Place;
+
+/// A join whose operands are checked: its function and its word's place, its data sets, and the frame that the first clause
+/// inside works on.
+#[derive(Drop)]
+pub struct Joining {
+    pub function: JoinFunction,
+    pub place: Place,
+    pub sets: Items<DataSet>,
+    pub frame: Frame,
+}
+
+/// A clause inside, checked, at the place of its word.
+#[derive(Drop)]
+pub struct Placed {
+    pub clause: CheckedClause,
+    pub place: Place,
+}
