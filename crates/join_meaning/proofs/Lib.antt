@@ -1,0 +1,12 @@
+pub mod Numbers
+pub mod Gathered
+pub mod Typed
+pub mod Crossed
+pub mod Covered
+pub mod Structure
+pub mod Virals
+pub mod Fits
+pub mod Words
+pub mod Distinct
+pub mod Counted
+pub mod Worked
