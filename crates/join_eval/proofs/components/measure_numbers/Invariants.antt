@@ -1,0 +1,7 @@
+use Rattle.std.proofs.Common.{◌≡◌, ◌++◌, drop}
+use Rattle.vtl_values.specs.declared.kind.Role.TheVariants.{Measure}
+use Rattle.clause_trees.specs.Frames.{has_role, numbers_from}
+use Rattle.join_eval.proofs.components.measure_numbers.Given as goal
+
+abbrev pub invariant-loop-i : goal.invariant-loop-i
+invariant-loop-i l = numbers_from (λ number. has_role Measure) 0 l.components ≡ l.numbers ++ numbers_from (λ number. has_role Measure) l.i (drop l.i l.components)

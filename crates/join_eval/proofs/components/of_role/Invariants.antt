@@ -1,0 +1,7 @@
+use Rattle.std.proofs.Common.{◌≡◌, ◌++◌, drop}
+use Rattle.std.specs.Prelude.{filter}
+use Rattle.clause_trees.specs.Frames.{has_role}
+use Rattle.join_eval.proofs.components.of_role.Given as goal
+
+abbrev pub invariant-loop-component : goal.invariant-loop-component
+invariant-loop-component l = filter (has_role l.role) l.components ≡ l.found ++ filter (has_role l.role) (drop l.component-index l.components)

@@ -1,0 +1,59 @@
+-- The operands for which the rule is asked are those that are held.
+use Rattle.std.proofs.Common.{◌≡◌, ℕ, ◌+◌, ◌*◌, ◌≤◌, List, [], length, Result, true, false, sym, ap, subst, ◌∙◌, arith}
+use Rattle.std.specs.List.{All, AllZip}
+use Rattle.std.specs.Option.{IfSome}
+use Rattle.vtl_values.specs.declared.structure.Component.{Component}
+use Rattle.vtl_values.specs.Order.{key_cmp}
+use Rattle.data_model.specs.Answers.{IsRight}
+use Rattle.data_model.specs.Deltas.{Differs}
+use Rattle.data_model.specs.Drafts.{finished, IsDraft}
+use Rattle.point_sets.specs.Changes.{Changes}
+use Rattle.point_sets.specs.DataSets.{DataSet}
+use Rattle.structured_sets.specs.Fitting.{IsSetOf, IsBoundedSetOf}
+use Rattle.held_index.specs.Drafts.{SetDraft}
+use Rattle.held_index.specs.Holdings.{AllPlain, Holding, contents}
+use Rattle.held_index.specs.Rules.{answer_of, after_news, AreAsked, IsRightAnswer}
+use Rattle.held_index.specs.Wants.{all_whole}
+use Rattle.held_index.specs.declared.stop.Stop.{Stop}
+use Rattle.held_index.proofs.Rules.{IsRightAnswer-finished}
+use Rattle.held_index.proofs.WantLemmas.{all_whole-plain, contents-all_whole}
+use Rattle.clause_meaning.proofs.Picked.{AllZip-weaker}
+use Rattle.data_set_trees.specs.declared.tree.DataSetOperator.TheVariants.{Join}
+use Rattle.checked_trees.specs.Operators.{an_operator, Operator}
+use Rattle.join_meaning.specs.Joins.{JoinOn}
+use Rattle.join_meaning.specs.Typed.{IsTypedJoinOn}
+use Rattle.outer_joins.specs.Noted.{value_at, IsNoted, all_keys_of}
+use Rattle.outer_joins.specs.Rules.{is_outer, join_meaning_of, IsOuterOn}
+use Rattle.outer_joins.proofs.Right.{AllZip-length, right-answer}
+
+fit-all : (ss : List (List Component)) (xs : List DataSet) → AllZip IsBoundedSetOf ss xs → AllZip IsSetOf ss xs
+fit-all ss xs h = AllZip-weaker IsBoundedSetOf IsSetOf (λ s x bounded. bounded.fits) ss xs h
+
+-- the operator that is this join
+abbrev operator_of : JoinOn → Operator
+operator_of j = an_operator (Join j.function) j.operands j.structure
+
+module _ (j : JoinOn) (typed : IsTypedJoinOn j) (outer : is_outer j.function ≡ true) (held : List Holding) (news : List Changes) (before : ℕ) (n : SetDraft) where
+  asked-right : All Differs news → (AllPlain held → IsNoted j held news (all_keys_of j j.operands news) n) → (xs : List DataSet) (x : DataSet)
+      → AreAsked (AllZip IsBoundedSetOf j.operands) (join_meaning_of (operator_of j)) (all_whole (length j.operands)) held news before xs x → IsRight (join_meaning_of (operator_of j) (after_news news xs)) x (finished before n)
+  asked-right differ noted xs x asked =
+      let ks = all_keys_of j j.operands news in
+      let many : length xs ≡ length j.operands = AllZip-length IsBoundedSetOf j.operands xs asked.admitted in
+      let plain : AllPlain held = subst AllPlain asked.held_is (all_whole-plain xs (length j.operands)) in
+      let same : contents held ≡ xs = ap contents (sym asked.held_is) ∙ contents-all_whole xs (length j.operands) many in
+      right-answer j typed outer news xs x before n differ asked.begins (fit-all j.operands xs asked.admitted) (fit-all j.operands (after_news news xs) asked.admitted_after)
+      (subst (λ (ys : List DataSet). IsDraft {R = key_cmp} (λ key. false) [] (value_at j ys) (value_at j (after_news news ys)) ks n) same (noted plain))
+      asked.result_is asked.count
+
+-- the draft in which the keys of all changes are noted ends in the right answer
+pub right-for-all : (o : Operator) (j : JoinOn) → IsOuterOn o j → (held : List Holding) (news : List Changes) (before : ℕ) (n : SetDraft) (answer : Result Changes Stop) → IfSome (answer_of answer) (λ a. a ≡ finished before n)
+    → All Differs news → (AllPlain held → IsNoted j held news (all_keys_of j j.operands news) n)
+    → IsRightAnswer (AllZip IsBoundedSetOf o.operands) (join_meaning_of o) (all_whole (length o.operands)) held news before answer
+right-for-all o j on held news before n answer ends differ noted =
+    subst (λ (p : Operator). IsRightAnswer (AllZip IsBoundedSetOf p.operands) (join_meaning_of p) (all_whole (length p.operands)) held news before answer) (sym on.is)
+    (IsRightAnswer-finished (AllZip IsBoundedSetOf j.operands) (join_meaning_of (operator_of j)) (all_whole (length j.operands)) held news before answer n ends (asked-right j on.typed on.outer held news before n differ noted))
+
+-- ---- steps
+
+pub few-steps : (m n c before now : ℕ) → m ≡ n → now ≤ before + 2 * m * c → now ≤ before + 4 * n * c
+few-steps m n c before now same h = let own : now ≤ before + 2 * n * c = subst (λ k. now ≤ before + 2 * k * c) same h in omega (arith, own)

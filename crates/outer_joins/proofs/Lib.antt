@@ -1,0 +1,4 @@
+pub mod Looked
+pub mod Right
+pub mod Asked
+pub mod Shared
