@@ -5,11 +5,10 @@ use Rattle.vtl_values.specs.Order.{key_cmp}
 use Rattle.vtl_values.specs.declared.kind.Role.TheVariants.{Viral}
 use Rattle.vtl_values.specs.declared.structure.Codes.TheVariants.{Any}
 use Rattle.vtl_values.specs.declared.structure.Component.{Component}
-use Rattle.vtl_values.specs.declared.value.Value.{Value}
 use Rattle.data_model.specs.Outcomes.{Made, IsOutcome}
 use Rattle.typing_rules.proofs.Sound.{right}
 use Rattle.point_sets.specs.DataSets.{DataSet}
-use Rattle.structured_sets.specs.Fitting.{is_identifier, FitsComponent, IsSetOf, IsBoundedSetOf}
+use Rattle.structured_sets.specs.Fitting.{IsSetOf, IsBoundedSetOf}
 use Rattle.clause_trees.specs.declared.clause.CheckedClause.{CheckedClause}
 use Rattle.clause_trees.specs.declared.clause.CheckedClause.TheVariants as clause
 use Rattle.clause_trees.specs.declared.frame.Frame.{Frame}
@@ -25,21 +24,18 @@ use Rattle.clause_meaning.proofs.First.{identifiers-first}
 use Rattle.clause_meaning.proofs.Fits.{filter-fits, keep-fits, drop-fits, rename-fits, sub-fits}
 use Rattle.clause_meaning.proofs.MadeFits.{calc-fits, unpivot-fits, measures-fit}
 use Rattle.operator_meaning.specs.Operators.{SetOutcome}
-use Rattle.operator_meaning.proofs.Opened.{IsBoundedSetOf-opened}
+use Rattle.operator_meaning.proofs.Opened.{IsOpener, IsBoundedSetOf-opened, all-opened}
 
 -- what a clause leaves of a structure
 abbrev pub left_by : CheckedClause → List Component → List Component
 left_by c operand = map unlisted (after c (frame_of operand)).components
 
-unlisted-opens : (c : Component) (v : Value) → FitsComponent c v → FitsComponent (unlisted c) v
-unlisted-opens c v h = by_role (has_role Viral c) refl
+unlisted-opens : (c : Component) → IsOpener c (unlisted c)
+unlisted-opens c = by_role (has_role Viral c)
   where
-    by_role : (b : Bool) → has_role Viral c ≡ b → FitsComponent (unlisted c) v
-    by_role true e = rw e h
-    by_role false e = rw e (record { kind = h.kind; codes = refl })
-
-unlisted-same : (c : Component) → is_identifier (unlisted c) ≡ is_identifier c
-unlisted-same c = elim (has_role Viral c) as (λ b. is_identifier (if b then c else record c { codes = Any }) ≡ is_identifier c) [ true ↦ refl | false ↦ refl ]
+    by_role : (b : Bool) → IsOpener c (if b then c else record c { codes = Any })
+    by_role true = record { opens = λ v h. h; same = refl }
+    by_role false = record { opens = λ v h. record { kind = h.kind; codes = refl }; same = refl }
 
 fits-after : (c : CheckedClause) (frame : Frame) (a y : DataSet) → HasIdentifiersFirst frame → is_well_typed frame c ≡ true → IsSetOf frame.components a → clause_meaning c frame a ≡ Made y → IsSetOf (after c frame).components y
 fits-after (clause.Filter condition) frame a y first typed fit e = filter-fits condition frame a y fit e
@@ -55,5 +51,5 @@ fits-after (clause.Measures items) frame a y first typed fit e = measures-fit it
 pub clause-fits : (c : CheckedClause) (operand : List Component) (a y : DataSet) → IsStructure operand → is_well_typed (frame_of operand) c ≡ true → IsSetOf operand a → clause_meaning c (frame_of operand) a ≡ Made y → IsBoundedSetOf (left_by c operand) y
 clause-fits c operand a y structure typed fit e =
     let made = subst (λ (o : SetOutcome). IsOutcome {R = key_cmp} (working_of c (frame_of operand) a).beyond (working_of c (frame_of operand) a).value o) e (meant c (frame_of operand) a) in
-    IsBoundedSetOf-opened unlisted unlisted-opens unlisted-same (after c (frame_of operand)).components y
+    IsBoundedSetOf-opened (after c (frame_of operand)).components (left_by c operand) y (all-opened unlisted unlisted-opens (after c (frame_of operand)).components)
     (record { fits = fits-after c (frame_of operand) a y (identifiers-first operand structure) typed fit e; few = made.1 })

@@ -11,7 +11,7 @@ use Rattle.vtl_values.specs.declared.structure.Component.{Component}
 use Rattle.vtl_values.specs.declared.place.Place.{Place}
 use Rattle.vtl_values.specs.declared.value.Value.{Value}
 use Rattle.vtl_values.specs.Order.{key_cmp}
-use Rattle.vtl_values.specs.Structures.{NamedStructures}
+use Rattle.vtl_values.specs.Structures.{NamedStructures, IsStructure}
 use Rattle.data_model.specs.Outcomes.{made}
 use Rattle.point_sets.specs.DataSets.{DataSet}
 use Rattle.checked_trees.specs.declared.script.CheckedStatement.{CheckedStatement}
@@ -19,7 +19,8 @@ use Rattle.data_set_trees.specs.declared.tree.Source.{Source}
 use Rattle.data_set_trees.specs.declared.tree.Source.TheVariants.{Input, Result as ResultOf}
 use Rattle.clause_trees.specs.Frames.{frame_of}
 use Rattle.data_set_trees.specs.declared.tree.DataSetOperator.{DataSetOperator}
-use Rattle.data_set_trees.specs.declared.tree.DataSetOperator.TheVariants.{Clause, Pair, Choice, ExistsIn, Set}
+use Rattle.data_set_trees.specs.declared.tree.DataSetOperator.TheVariants.{Clause, Pair, Choice, ExistsIn, Set, Join, InJoin}
+use Rattle.checked_trees.specs.Choices.{branches}
 use Rattle.checked_trees.specs.Operators.{an_operator, Operator, IsTyped, TakesOperands}
 use Rattle.checked_trees.specs.Expressions.{Expression, Expressions, Named, Applied, none, more, expression_of}
 use Rattle.checked_trees.specs.Scripts.{Script, IsChecked, FollowOperands, IsOneOf, names_in, names_in_all, names_of, structure_of_source}
@@ -27,6 +28,14 @@ use Rattle.checked_trees.specs.Typing.{HasStructure, HaveStructures}
 use Rattle.clause_meaning.proofs.Covered.{meaning-empty}
 use Rattle.pair_meaning.specs.Typed.{pair_on}
 use Rattle.pair_meaning.proofs.Paired.{left-empty}
+use Rattle.set_meaning.specs.Sets.{set_on}
+use Rattle.set_meaning.proofs.Covered.{set-empty}
+use Rattle.exists_meaning.specs.Exists.{exists_on}
+use Rattle.exists_meaning.proofs.Told.{first-empty}
+use Rattle.choice_meaning.specs.Choices.{choice_on, choice_meaning}
+use Rattle.choice_meaning.proofs.Chosen.{nothing-chosen}
+use Rattle.join_meaning.specs.Joins.{join_on}
+use Rattle.join_meaning.proofs.Covered.{join-empty}
 use Rattle.operator_meaning.specs.Operators.{meaning_of}
 use Rattle.operator_meaning.specs.Results.{Evaluated, without_points, sets_of, points_of, placed, worked, gathered, result_of, results_of}
 use Rattle.operator_meaning.specs.Scripts.{State, Has, Idle, state_of, set_in, set_named, worked_out, state_at, with_at, states_after, states, first_states, all_states, points_in, first_wrong, or_total, script_wrong}
@@ -38,16 +47,20 @@ use Rattle.operator_meaning.proofs.ScriptLemmas.{result_of-same, with_at-same, w
 abbrev pub empties : {A : Type 0} → List A → List DataSet
 empties = map (λ _. empty)
 
-parts-empty : (operator : DataSetOperator) (operands : List (List Component)) (structure : List Component) → TakesOperands (an_operator operator operands structure) → meaning_of (an_operator operator operands structure) (empties operands) ≡ made empty
-parts-empty (Clause clause) operands structure takes = ap (λ (ss : List (List Component)). meaning_of (an_operator (Clause clause) ss structure) (empties ss)) takes.one ∙ meaning-empty clause (frame_of takes.operand)
-parts-empty (Pair items) operands structure takes = ap (λ (ss : List (List Component)). meaning_of (an_operator (Pair items) ss structure) (empties ss)) takes.two ∙ left-empty (pair_on items takes.left takes.right structure) empty
-parts-empty (Choice holds fails items) operands structure takes = absurd takes
-parts-empty (ExistsIn rows) operands structure takes = absurd takes
-parts-empty (Set operation) operands structure takes = absurd takes
+parts-empty : (operator : DataSetOperator) (operands : List (List Component)) (structure : List Component) → All IsStructure operands → IsStructure structure → TakesOperands (an_operator operator operands structure) → meaning_of (an_operator operator operands structure) (empties operands) ≡ made empty
+parts-empty (Clause clause) operands structure structures result takes = ap (λ (ss : List (List Component)). meaning_of (an_operator (Clause clause) ss structure) (empties ss)) takes.one ∙ meaning-empty clause (frame_of takes.operand)
+parts-empty (Pair items) operands structure structures result takes = ap (λ (ss : List (List Component)). meaning_of (an_operator (Pair items) ss structure) (empties ss)) takes.two ∙ left-empty (pair_on items takes.left takes.right structure) empty
+parts-empty (Choice holds fails items) operands structure structures result takes =
+    let on = choice_on holds fails items operands structure in
+    ap (λ (ss : List (List Component)). choice_meaning on (empties ss)) takes.operands_are ∙ nothing-chosen on (empties (branches takes.when_holds takes.when_fails))
+parts-empty (ExistsIn rows) operands structure structures result takes = ap (λ (ss : List (List Component)). meaning_of (an_operator (ExistsIn rows) ss structure) (empties ss)) takes.two ∙ first-empty (exists_on rows takes.left takes.right structure) empty
+parts-empty (Set operation) operands structure structures result takes = set-empty (set_on operation operands structure)
+parts-empty (Join f) operands structure structures result takes = join-empty (join_on f operands structure) (record { structures = structures; structure_is = result; join = takes })
+parts-empty (InJoin clause) operands structure structures result takes = ap (λ (ss : List (List Component)). meaning_of (an_operator (InJoin clause) ss structure) (empties ss)) takes.one ∙ meaning-empty clause (frame_of takes.operand)
 
 -- what a typed operator gives on empty operands is empty
 pub meaning_of-empty : (o : Operator) → IsTyped o → meaning_of o (empties o.operands) ≡ made empty
-meaning_of-empty o typed = parts-empty o.operator o.operands o.structure typed.takes
+meaning_of-empty o typed = parts-empty o.operator o.operands o.structure typed.structures typed.result typed.takes
 
 -- ---- expressions
 

@@ -4,7 +4,7 @@ use Rattle.std.specs.Option.{is_some, unwrap_or}
 use Rattle.std.specs.List.{All, list_all, slice_get}
 use Rattle.std.specs.FinMap.{empty, len, get-empty, len-empty}
 use Rattle.std.proofs.lemmas.Bool.{cases_eq}
-use Rattle.std.proofs.lemmas.List.Elements.{All-get_or, All-head, All-tail}
+use Rattle.std.proofs.lemmas.List.Elements.{All-get_or, All-head}
 use Rattle.std.proofs.lemmas.Option.{get_or_from_slice_get, slice_get_within}
 use Rattle.vtl_values.specs.declared.structure.Component.{Component}
 use Rattle.vtl_values.specs.declared.value.Value.{Value}
@@ -18,20 +18,20 @@ use Rattle.checked_trees.specs.declared.script.CheckedStatement.{CheckedStatemen
 use Rattle.data_set_trees.specs.declared.tree.Source.{Source}
 use Rattle.data_set_trees.specs.declared.tree.Source.TheVariants.{Input, Result as ResultOf}
 use Rattle.clause_trees.specs.declared.clause.CheckedClause.{CheckedClause}
-use Rattle.clause_trees.specs.declared.clause.CheckedMeasure.{CheckedMeasure}
+use Rattle.clause_trees.specs.Frames.{frame_of}
+use Rattle.clause_trees.specs.WellTyped.{is_well_typed}
 use Rattle.data_set_trees.specs.declared.tree.DataSetOperator.{DataSetOperator}
-use Rattle.data_set_trees.specs.declared.tree.DataSetOperator.TheVariants.{Clause, Pair, Choice, ExistsIn, Set}
-use Rattle.checked_trees.specs.Operators.{an_operator, Operator, IsTyped, IsTypedClause, IsTypedPair, TakesOperands}
+use Rattle.data_set_trees.specs.declared.tree.DataSetOperator.TheVariants.{Clause, Pair, Choice, ExistsIn, Set, Join, InJoin}
+use Rattle.checked_trees.specs.Operators.{an_operator, Operator, IsTyped, TakesOperands}
 use Rattle.checked_trees.specs.Expressions.{Expression, Expressions, Named, Applied, none, more, expression_of}
 use Rattle.checked_trees.specs.Scripts.{Script, IsChecked, names_in, structure_of_source}
 use Rattle.checked_trees.specs.Typing.{HasStructure, HaveStructures}
-use Rattle.pair_meaning.specs.Typed as pairs
-use Rattle.pair_meaning.specs.Typed.{pair_on}
-use Rattle.operator_meaning.specs.Operators.{SetOutcome, pair_on_two, clause_on, meaning_of, AreOperands}
+use Rattle.operator_meaning.specs.Operators.{SetOutcome, clause_on, meaning_of, AreOperands}
 use Rattle.operator_meaning.specs.Results.{Wrong, Evaluated, sets_of, points_of, placed, worked, gathered, result_of, results_of}
 use Rattle.operator_meaning.specs.Scripts.{State, Has, Fails, Idle, state_of, set_in, set_named, worked_out, state_at, with_at, states_after, states}
 use Rattle.operator_meaning.proofs.ClauseFits.{left_by, clause-fits}
-use Rattle.operator_meaning.proofs.PairFits.{pair-fits}
+use Rattle.operator_meaning.proofs.ManyFits.{pair-fit, exists-fit, choice-fit, set-fit, join-fit}
+use Rattle.operator_meaning.proofs.Opened.{IsBoundedSetOf-renamed}
 use Rattle.operator_meaning.proofs.ScriptLemmas.{with_at-same, with_at-other}
 
 pub empty-fits : (cs : List Component) → IsBoundedSetOf cs empty
@@ -39,47 +39,30 @@ empty-fits cs = record { fits = λ k. rw (get-empty key_cmp k) tt; few = let non
 
 -- ---- operators
 
-two-fit : (items : List CheckedMeasure) (operands : List (List Component)) (structure : List Component) (xs : List DataSet) (y : DataSet) → All IsStructure operands → IsStructure structure → IsTypedPair items operands structure → AreOperands operands xs → pair_on_two items operands structure xs ≡ Made y → IsBoundedSetOf structure y
-two-fit items operands structure xs y structures result typed h e =
-    of_two xs (subst (λ (ss : List (List Component)). AreOperands ss xs) typed.two h) (subst (λ (ss : List (List Component)). pair_on_two items ss structure xs ≡ Made y) typed.two e)
+-- a clause on one data set
+one-fits : (clause : CheckedClause) (operand : List Component) (operands : List (List Component)) (xs : List DataSet) (y : DataSet) → All IsStructure operands → operands ≡ operand ∷ [] → is_well_typed (frame_of operand) clause ≡ true → AreOperands operands xs → clause_on clause operands xs ≡ Made y → IsBoundedSetOf (left_by clause operand) y
+one-fits clause operand operands xs y structures one typed h e =
+    of_one xs (subst (λ (ss : List (List Component)). AreOperands ss xs) one h) (subst (λ (ss : List (List Component)). clause_on clause ss xs ≡ Made y) one e)
   where
-    both : All IsStructure (typed.left ∷ typed.right ∷ [])
-    both = subst (λ (ss : List (List Component)). All IsStructure ss) typed.two structures
+    first : IsStructure operand
+    first = All-head IsStructure operand [] (subst (λ (ss : List (List Component)). All IsStructure ss) one structures)
 
-    pair : pairs.IsTypedPair (pair_on items typed.left typed.right structure)
-    pair = record {
-      left_is = All-head IsStructure typed.left (typed.right ∷ []) both;
-      right_is = All-head IsStructure typed.right [] (All-tail IsStructure typed.left (typed.right ∷ []) both);
-      structure_is = result;
-      pair = typed.pair;
-    }
-
-    of_two : (xs : List DataSet) → AreOperands (typed.left ∷ typed.right ∷ []) xs → pair_on_two items (typed.left ∷ typed.right ∷ []) structure xs ≡ Made y → IsBoundedSetOf structure y
-    of_two [] h e = absurd h
-    of_two (a ∷ []) h e = absurd h.1
-    of_two (a ∷ b ∷ []) h e = pair-fits (pair_on items typed.left typed.right structure) a b y pair h.0.fits h.1.0.fits e
-    of_two (a ∷ b ∷ c ∷ xs) h e = absurd h.1.1
-
-one-fits : (clause : CheckedClause) (operands : List (List Component)) (structure : List Component) (xs : List DataSet) (y : DataSet) → All IsStructure operands → IsTypedClause clause operands structure → AreOperands operands xs → clause_on clause operands xs ≡ Made y → IsBoundedSetOf structure y
-one-fits clause operands structure xs y structures typed h e =
-    subst (λ (cs : List Component). IsBoundedSetOf cs y) (sym typed.after_it)
-    (of_one xs (subst (λ (ss : List (List Component)). AreOperands ss xs) typed.one h) (subst (λ (ss : List (List Component)). clause_on clause ss xs ≡ Made y) typed.one e))
-  where
-    first : IsStructure typed.operand
-    first = All-head IsStructure typed.operand [] (subst (λ (ss : List (List Component)). All IsStructure ss) typed.one structures)
-
-    of_one : (xs : List DataSet) → AreOperands (typed.operand ∷ []) xs → clause_on clause (typed.operand ∷ []) xs ≡ Made y → IsBoundedSetOf (left_by clause typed.operand) y
+    of_one : (xs : List DataSet) → AreOperands (operand ∷ []) xs → clause_on clause (operand ∷ []) xs ≡ Made y → IsBoundedSetOf (left_by clause operand) y
     of_one [] h e = absurd h
-    of_one (a ∷ []) h e = clause-fits clause typed.operand a y first typed.typed h.0.fits e
+    of_one (a ∷ []) h e = clause-fits clause operand a y first typed h.0.fits e
     of_one (a ∷ b ∷ xs) h e = absurd h.1
 
 parts-fit : (operator : DataSetOperator) (operands : List (List Component)) (structure : List Component) (xs : List DataSet) (y : DataSet)
     → All IsStructure operands → IsStructure structure → TakesOperands (an_operator operator operands structure) → AreOperands operands xs → meaning_of (an_operator operator operands structure) xs ≡ Made y → IsBoundedSetOf structure y
-parts-fit (Clause clause) operands structure xs y structures result takes h e = one-fits clause operands structure xs y structures takes h e
-parts-fit (Pair items) operands structure xs y structures result takes h e = two-fit items operands structure xs y structures result takes h e
-parts-fit (Choice holds fails items) operands structure xs y structures result takes h e = absurd takes
-parts-fit (ExistsIn rows) operands structure xs y structures result takes h e = absurd takes
-parts-fit (Set operation) operands structure xs y structures result takes h e = absurd takes
+parts-fit (Clause clause) operands structure xs y structures result takes h e =
+    subst (λ (cs : List Component). IsBoundedSetOf cs y) (sym takes.after_it) (one-fits clause takes.operand operands xs y structures takes.one takes.typed h e)
+parts-fit (Pair items) operands structure xs y structures result takes h e = pair-fit operands structure xs y structures result h items takes e
+parts-fit (Choice holds fails items) operands structure xs y structures result takes h e = choice-fit operands structure xs y structures result h holds fails items takes e
+parts-fit (ExistsIn rows) operands structure xs y structures result takes h e = exists-fit operands structure xs y structures result h rows takes e
+parts-fit (Set operation) operands structure xs y structures result takes h e = set-fit operands structure xs y structures result h operation takes e
+parts-fit (Join f) operands structure xs y structures result takes h e = join-fit operands structure xs y structures result h f takes e
+parts-fit (InJoin clause) operands structure xs y structures result takes h e =
+    IsBoundedSetOf-renamed structure (left_by clause takes.operand) y takes.after_it (one-fits clause takes.operand operands xs y structures takes.one takes.typed h e)
 
 -- what a typed operator gives on operands of its structures is of its structure
 pub meaning_of-fits : (o : Operator) (xs : List DataSet) (y : DataSet) → IsTyped o → AreOperands o.operands xs → meaning_of o xs ≡ Made y → IsBoundedSetOf o.structure y

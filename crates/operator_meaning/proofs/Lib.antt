@@ -2,6 +2,6 @@ pub mod Items
 pub mod ScriptLemmas
 pub mod Opened
 pub mod ClauseFits
-pub mod PairFits
+pub mod ManyFits
 pub mod FitLemmas
 pub mod EmptyLemmas

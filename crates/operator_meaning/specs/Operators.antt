@@ -5,6 +5,7 @@ use Rattle.std.specs.FinMap.{empty}
 use Rattle.vtl_values.specs.declared.structure.Component.{Component}
 use Rattle.vtl_values.specs.declared.value.Value.{Value}
 use Rattle.vtl_values.specs.Order.{key_cmp}
+use Rattle.vtl_syntax.specs.declared.words.ExistsRows.{ExistsRows}
 use Rattle.data_model.specs.Outcomes.{Outcome, made}
 use Rattle.point_sets.specs.DataSets.{DataSet}
 use Rattle.structured_sets.specs.Fitting.{IsBoundedSetOf}
@@ -12,11 +13,15 @@ use Rattle.clause_trees.specs.declared.clause.CheckedClause.{CheckedClause}
 use Rattle.clause_trees.specs.declared.clause.CheckedMeasure.{CheckedMeasure}
 use Rattle.clause_trees.specs.Frames.{frame_of}
 use Rattle.data_set_trees.specs.declared.tree.DataSetOperator.{DataSetOperator}
-use Rattle.data_set_trees.specs.declared.tree.DataSetOperator.TheVariants.{Clause, Pair}
+use Rattle.data_set_trees.specs.declared.tree.DataSetOperator.TheVariants.{Clause, Pair, Choice, ExistsIn, Set, Join, InJoin}
 use Rattle.checked_trees.specs.Operators.{Operator}
 use Rattle.clause_meaning.specs.Clauses.{clause_meaning}
 use Rattle.pair_meaning.specs.Pairs.{pair_meaning}
 use Rattle.pair_meaning.specs.Typed.{pair_on}
+use Rattle.set_meaning.specs.Sets.{set_on, set_meaning}
+use Rattle.exists_meaning.specs.Exists.{exists_on, exists_meaning}
+use Rattle.choice_meaning.specs.Choices.{choice_on, choice_meaning}
+use Rattle.join_meaning.specs.Joins.{join_on, join_meaning}
 
 -- a data set, the least key at which an evaluation is out of range, or that there are too many points
 abbrev pub SetOutcome : Type 0
@@ -27,19 +32,28 @@ abbrev pub pair_on_two : List CheckedMeasure → List (List Component) → List 
 pair_on_two items (left ∷ right ∷ operands) structure (a ∷ b ∷ xs) = pair_meaning (pair_on items left right structure) a b
 pair_on_two items operands structure xs = made empty
 
+-- what `exists_in` makes of its two operands, which have these structures
+abbrev pub exists_on_two : ExistsRows → List (List Component) → List Component → List DataSet → SetOutcome
+exists_on_two rows (left ∷ right ∷ operands) structure (a ∷ b ∷ xs) = exists_meaning (exists_on rows left right structure) a b
+exists_on_two rows operands structure xs = made empty
+
 -- what a clause makes of its one operand, which has this structure
 abbrev pub clause_on : CheckedClause → List (List Component) → List DataSet → SetOutcome
 clause_on clause (operand ∷ operands) (a ∷ xs) = clause_meaning clause (frame_of operand) a
 clause_on clause operands xs = made empty
 
--- what the operator gives; of those on several data sets the scalar ones are built, and none of the others
+-- what the operator gives
 abbrev pub meaning_of : Operator → List DataSet → SetOutcome
 meaning_of o = by_operator o.operator
   where
     by_operator : DataSetOperator → List DataSet → SetOutcome
     by_operator (Clause clause) = clause_on clause o.operands
     by_operator (Pair items) = pair_on_two items o.operands o.structure
-    by_operator _ = λ xs. made empty
+    by_operator (Choice holds fails items) = choice_meaning (choice_on holds fails items o.operands o.structure)
+    by_operator (ExistsIn rows) = exists_on_two rows o.operands o.structure
+    by_operator (Set operation) = set_meaning (set_on operation o.operands o.structure)
+    by_operator (Join f) = join_meaning (join_on f o.operands o.structure)
+    by_operator (InJoin clause) = clause_on clause o.operands
 
 -- operands of these structures
 abbrev pub AreOperands : List (List Component) → List DataSet → Type 0

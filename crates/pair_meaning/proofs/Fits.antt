@@ -1,11 +1,12 @@
 -- What a well typed pair gives is of the result's structure.
-use Rattle.std.proofs.Common.{◌≡◌, ◌≢◌, ℕ, suc, List, [], ◌∷◌, ◌++◌, map, length, Bool, true, false, ◌&&◌, ◌||◌, cond, if◌then◌else◌, Option, Some, None, IfSome, option_map, refl, sym, ap, subst, ◌∙◌}
+use Rattle.std.proofs.Common.{◌≡◌, ◌≢◌, ℕ, List, [], ◌∷◌, ◌++◌, map, length, Bool, true, false, ◌&&◌, ◌||◌, cond, if◌then◌else◌, Option, Some, None, IfSome, option_map, refl, sym, ap, subst, ◌∙◌}
 use Rattle.std.specs.Prelude.{option_and_then}
 use Rattle.std.specs.Option.{is_some, option_zip}
 use Rattle.std.specs.List.{All, AllZip, cons_option, list_all, list_any}
 use Rattle.std.specs.FinMap.{get}
 use Rattle.std.specs.Ordering.{eq_by_cmp}
 use Rattle.std.proofs.lemmas.List.Elements.{All-head, All-tail}
+use Rattle.std.proofs.lemmas.Slice.Zip.{AllZip-long}
 use Rattle.vtl_values.specs.Order.{key_cmp}
 use Rattle.vtl_values.specs.Texts.{Fits, same_text}
 use Rattle.vtl_values.specs.declared.kind.Kind.{Kind}
@@ -141,12 +142,6 @@ module _ (p : PairOn) (typed : IsTypedPair p) where
           subst (λ (ws : List Value). AllZip FitsComponent (map measure_component p.measures ++ both_virals p.left p.right) ws) same
           (AllZip-++ FitsComponent (map measure_component p.measures) (both_virals p.left p.right) us (viral_values p a b) (measures-worked (kinds_on_both p.left p.right) (point_row a b) row p.measures typed.pair.of_kind us e) (valued its))
 
-AllZip-length : {A B : Type 0} (F : A → B → Type 0) (xs : List A) (ys : List B) → AllZip F xs ys → length ys ≡ length xs
-AllZip-length F [] [] h = refl
-AllZip-length F [] (y ∷ ys) h = absurd h
-AllZip-length F (x ∷ xs) [] h = absurd h
-AllZip-length F (x ∷ xs) (y ∷ ys) h = ap suc (AllZip-length F xs ys h.1)
-
 if-there : {A : Type 0} (P : A → Type 0) (o : Option A) (x : A) → o ≡ Some x → IfSome o P → P x
 if-there {A = A} P o x e h = subst (λ (q : Option A). IfSome q P) e h
 
@@ -164,7 +159,7 @@ module _ (p : PairOn) (a b y : DataSet) (typed : IsTypedPair p) where
       (if-there (IsPointOf (main p) key) (get (main_set p a b) key) point.0 point.1 (set-of-main fit fits key)).key_fits
 
   long-key : (key : List Value) → AllZip FitsIdentifier (fitting.identifiers (main p)) key → length key ≡ length (identifiers (main p))
-  long-key key fit = AllZip-length FitsIdentifier (fitting.identifiers (main p)) key fit ∙ ap length (sym (of-identifiers (main p)))
+  long-key key fit = AllZip-long FitsIdentifier (fitting.identifiers (main p)) key fit ∙ ap length (sym (of-identifiers (main p)))
 
   -- each key is that of a main point whose partner is there
   pub keys-are : IsSetOf p.left a → IsSetOf p.right b → pair_meaning p a b ≡ Made y → (key rest : List Value) → get y key ≡ Some rest → (from : List Value) × (result_key p from ≡ key) × (is_some (get (main_set p a b) from) ≡ true) × (is_some (get (partner_set p a b) (partner_key p from)) ≡ true)

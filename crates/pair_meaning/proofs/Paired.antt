@@ -21,7 +21,7 @@ use Rattle.pair_meaning.specs.Pairs.{PairOn, key_between, is_left_main, left_key
 use Rattle.pair_meaning.proofs.Names.{either-left, either-right}
 
 -- what a listed key comes to is listed
-listed-map : (f : List Value → List Value) (k : List Value) (ks : List (List Value)) → is_listed key_cmp ks k ≡ true → is_listed key_cmp (map f ks) (f k) ≡ true
+pub listed-map : (f : List Value → List Value) (k : List Value) (ks : List (List Value)) → is_listed key_cmp ks k ≡ true → is_listed key_cmp (map f ks) (f k) ≡ true
 listed-map f k [] h = cc
 listed-map f k (j ∷ js) h = by_test (listed-map f k js) (eq_by_cmp key_cmp k j) refl h
   where

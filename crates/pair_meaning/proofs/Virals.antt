@@ -47,7 +47,8 @@ viral-text c (Listed codes) some fit = fit.0
 virals-texts : (cs : List Component) → IsStructure cs → All (λ c. Has Viral c → c.kind ≡ kind.Text) cs
 virals-texts cs is k d within has = viral-text (get_or cs k d) (get_or cs k d).codes (is.viral_listed k d within (sym (role_is Viral (get_or cs k d).role has))) (is.codes_fit k d within)
 
-same-codes : (a b : Codes) → same_codes a b ≡ true → a ≡ b
+-- code lists with the same texts are equal
+pub same-codes : (a b : Codes) → same_codes a b ≡ true → a ≡ b
 same-codes Any Any h = refl
 same-codes Any (Listed b) h = cc
 same-codes (Listed a) Any h = cc

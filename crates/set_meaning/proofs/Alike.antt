@@ -38,12 +38,6 @@ same_codes-refl : (a : Codes) → same_codes a a ≡ true
 same_codes-refl Any = refl
 same_codes-refl (Listed a) = (slice_eq-Decides same_text-Decides a a (pointwise same_text a a) refl).1 refl
 
-pub same_codes-same : (a b : Codes) → same_codes a b ≡ true → a ≡ b
-same_codes-same Any Any h = refl
-same_codes-same Any (Listed b) h = cc
-same_codes-same (Listed a) Any h = cc
-same_codes-same (Listed a) (Listed b) h = ap Listed ((slice_eq-Decides same_text-Decides a b (pointwise same_text a b) refl).0 h)
-
 alike-itself : (c : Component) → is_alike c c ≡ true
 alike-itself c =
     both (is_same c c && is_role c.role c.role) (not (has_role Viral c) || same_codes c.codes c.codes)

@@ -1,5 +1,5 @@
 -- The outcome of a set operator in words.
-use Rattle.std.proofs.Common.{◌≡◌, ◌≢◌, ◌≤◌, ◌⊎◌, List, [], ◌∷◌, map, zip, length, Bool, true, false, not, ◌||◌, if◌then◌else◌, Option, Some, None, option_map, refl, sym, ap, subst, ◌∙◌, arith, inl, inr}
+use Rattle.std.proofs.Common.{◌≡◌, ◌≢◌, ◌≤◌, ◌⊎◌, List, [], ◌∷◌, map, zip, length, Bool, true, false, not, if◌then◌else◌, Option, Some, None, option_map, refl, sym, ap, subst, ◌∙◌, arith, inl, inr}
 use Rattle.std.specs.Prelude.{flat_map}
 use Rattle.std.specs.Option.{option_or, is_some}
 use Rattle.std.specs.List.{list_any}
@@ -15,7 +15,7 @@ use Rattle.data_model.specs.Maps.{is_listed, leftmost, made_at}
 use Rattle.data_model.specs.Outcomes.{Made, Range, TooMany, Outcome, IsOutcome, IsResult, made}
 use Rattle.data_model.specs.declared.TheConstants.{POINT_LIMIT}
 use Rattle.data_model.proofs.DeltaLemmas.{contradicted}
-use Rattle.data_model.proofs.MapLemmas.{neither, tied, tied_to_itself, is_listed-keys, get-made_at_all, len-made_at}
+use Rattle.data_model.proofs.MapLemmas.{neither, tied, is_listed-keys, get-made_at_all, len-made_at}
 use Rattle.data_model.proofs.OutcomeLemmas.{outcome-of}
 use Rattle.point_sets.specs.DataSets.{DataSet}
 use Rattle.clause_meaning.proofs.Covered.{IsCovered, IsMeant, covered-meant}
@@ -23,17 +23,8 @@ use Rattle.clause_meaning.proofs.Kept.{result}
 use Rattle.data_set_trees.specs.declared.tree.SetOperation.{SetOperation}
 use Rattle.data_set_trees.specs.declared.tree.SetOperation.TheVariants.{Union, Intersect, Setdiff, Symdiff}
 use Rattle.pair_meaning.specs.Pairs.{key_between}
-use Rattle.pair_meaning.proofs.Names.{either-left, either-right}
+use Rattle.pair_meaning.proofs.Paired.{listed-map}
 use Rattle.set_meaning.specs.Sets.{SetOn, rest_between, read_at, is_key_between, point_at, stays, chosen, set_keys, points_at, set_working, set_meaning}
-
--- what a listed key comes to is listed
-pub listed-map : (f : List Value → List Value) (k : List Value) (ks : List (List Value)) → is_listed key_cmp ks k ≡ true → is_listed key_cmp (map f ks) (f k) ≡ true
-listed-map f k [] h = cc
-listed-map f k (j ∷ js) h = by_test (listed-map f k js) (eq_by_cmp key_cmp k j) refl h
-  where
-    by_test : (is_listed key_cmp js k ≡ true → is_listed key_cmp (map f js) (f k) ≡ true) → (b : Bool) → eq_by_cmp key_cmp k j ≡ b → (b || is_listed key_cmp js k) ≡ true → (eq_by_cmp key_cmp (f k) (f j) || is_listed key_cmp (map f js) (f k)) ≡ true
-    by_test later true e i = either-left (eq_by_cmp key_cmp (f k) (f j)) (is_listed key_cmp (map f js) (f k)) (subst (λ (q : List Value). eq_by_cmp key_cmp (f k) (f q) ≡ true) (tied key_cmp-IsTotalOrder key_cmp-IsAntisymmetric k j e) (tied_to_itself key_cmp-IsTotalOrder (f k)))
-    by_test later false e i = either-right (eq_by_cmp key_cmp (f k) (f j)) (is_listed key_cmp (map f js) (f k)) (later i)
 
 some-mapped : {A : Type 0} (f : A → A) (o : Option A) → is_some (option_map f o) ≡ true → is_some o ≡ true
 some-mapped f None h = cc

@@ -31,7 +31,8 @@ use Rattle.pair_meaning.proofs.Names.{same-true, named, picked, is_in, Apart}
 use Rattle.pair_meaning.proofs.Keys.{names, names-apart, names-unlisted, value-named, key-picked}
 use Rattle.set_meaning.specs.Sets.{SetOn, rest_between, read_at, is_key_between, point_at, points_at, stays, chosen, set_meaning}
 use Rattle.set_meaning.specs.Typed.{IsTypedSet}
-use Rattle.set_meaning.proofs.Alike.{Found, alike-named, alike-kind, alike-codes, same_codes-same, found-named, passing-same, ids, rest, ids-found, rest-found, unlisted-identifier, unlisted-other}
+use Rattle.pair_meaning.proofs.Virals.{same-codes}
+use Rattle.set_meaning.proofs.Alike.{Found, alike-named, alike-kind, alike-codes, found-named, passing-same, ids, rest, ids-found, rest-found, unlisted-identifier, unlisted-other}
 use Rattle.set_meaning.proofs.Covered.{set-result, few}
 use Rattle.set_meaning.proofs.Read.{IsSetLike, like-first}
 
@@ -44,7 +45,7 @@ alike-fits c d v alike fit = by_role (has_role Viral c) refl
     own = subst (λ (k : Kind). Fits k v) (sym (is_kind-same c.kind d.kind (alike-kind c d alike))) fit.kind
 
     by_role : (b : Bool) → has_role Viral c ≡ b → FitsComponent (if b then c else record c { codes = Any }) v
-    by_role true e = record { kind = own; codes = subst (λ (codes : Codes). is_in_codes codes v ≡ true) (sym (same_codes-same c.codes d.codes (alike-codes c d alike e))) fit.codes }
+    by_role true e = record { kind = own; codes = subst (λ (codes : Codes). is_in_codes codes v ≡ true) (sym (same-codes c.codes d.codes (alike-codes c d alike e))) fit.codes }
     by_role false e = record { kind = own; codes = refl }
 
 alike-identifies : (c d : Component) (v : Value) → is_alike c d ≡ true → FitsIdentifier d v → FitsIdentifier (unlisted c) v
