@@ -1,4 +1,5 @@
 pub mod Places
-pub mod Found
 pub mod Steps
 pub mod Marked
+pub mod Chosen
+pub mod Shared

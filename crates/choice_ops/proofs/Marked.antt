@@ -1,5 +1,5 @@
 -- The delta of a conditional's result, from the changes of its operands.
-use Rattle.std.proofs.Common.{◌≡◌, ℕ, zero, suc, ◌+◌, ◌*◌, ◌<◌, ◌≤◌, List, [], ◌∷◌, ◌++◌, map, take, drop, length, get_or, Option, Some, None, Result, Bool, true, false, ◌||◌, sym, ◌∙◌, ap, refl, subst, inl, inr, arith, append_assoc, zero-add}
+use Rattle.std.proofs.Common.{◌≡◌, ℕ, zero, suc, ◌+◌, ◌*◌, ◌<◌, ◌≤◌, List, [], ◌∷◌, ◌++◌, map, take, length, get_or, Option, Some, None, Result, Bool, true, false, ◌||◌, sym, ◌∙◌, ap, refl, subst, inl, inr, arith, append_assoc, zero-add}
 use Rattle.std.specs.Prelude.{slice_get, unwrap_or, option_map, option_and_then, nat_eq}
 use Rattle.std.specs.Option.{IfSome, is_some, option_map_or}
 use Rattle.std.specs.List.{AllZip}
@@ -7,11 +7,10 @@ use Rattle.std.specs.Ordering.{eq_by_cmp}
 use Rattle.std.proofs.lemmas.Bool.{cases_Bool, eqb-true}
 use Rattle.std.proofs.lemmas.Bool.Decides.{nat_tests}
 use Rattle.std.proofs.lemmas.List.{take_more, take_all, map-append, length-map, append-nil}
-use Rattle.std.proofs.lemmas.List.Elements.{All-nil, All-cons}
 use Rattle.std.proofs.lemmas.List.Folds.{list_any-append}
 use Rattle.std.proofs.lemmas.List.Sums.{sum_by-cons}
 use Rattle.std.proofs.Math.ListN.{get_or-map}
-use Rattle.std.specs.FinMap.{get, keys, len, entries, empty, get-empty}
+use Rattle.std.specs.FinMap.{get, keys, len, entries, get-empty}
 use Rattle.vtl_values.specs.declared.value.Value.{Value}
 use Rattle.vtl_values.specs.declared.structure.Component.{Component}
 use Rattle.vtl_values.specs.Order.{key_cmp}
@@ -21,7 +20,7 @@ use Rattle.data_model.specs.Deltas.{Pair, after}
 use Rattle.data_model.specs.Outcomes.{Made}
 use Rattle.data_model.specs.Answers.{IsRight}
 use Rattle.data_model.specs.Drafts.{nothing, finished}
-use Rattle.data_model.proofs.MapLemmas.{get-unlisted, neither, tied, tied_to_itself}
+use Rattle.data_model.proofs.MapLemmas.{get-unlisted, neither}
 use Rattle.data_model.proofs.DeltaLemmas.{get-apply, contradicted}
 use Rattle.data_model.proofs.DraftLemmas.{IsDraft-nothing, IsDraft-found, IsRight-outcome}
 use Rattle.point_sets.specs.declared.delta.Change.{Change}
@@ -32,7 +31,6 @@ use Rattle.structured_sets.specs.Fitting as fitting
 use Rattle.structured_sets.specs.Fitting.{FitsIdentifier, IsPointOf, IsSetOf, IsBoundedSetOf}
 use Rattle.clause_meaning.proofs.ByRole.{of-identifiers}
 use Rattle.clause_meaning.proofs.Covered.{point_by_point-covered}
-use Rattle.clause_meaning.proofs.Picked.{head-at, tail-at}
 use Rattle.clause_trees.specs.Frames.{has_role}
 use Rattle.vtl_values.specs.declared.kind.Role.TheVariants.{Identifier}
 use Rattle.checked_trees.specs.Choices.{branches}
@@ -41,19 +39,21 @@ use Rattle.std.proofs.Math.Nat.{mul-le-mul_right}
 use Rattle.data_set_trees.specs.Components.{identifiers}
 use Rattle.checked_trees.specs.Operators.{Operator}
 use Rattle.held_index.specs.Drafts.{SetDraft}
-use Rattle.held_index.specs.Holdings.{Holding, IsPlain, operand, holding_of}
+use Rattle.held_index.specs.Holdings.{AllPlain, Holding, contents}
 use Rattle.held_index.specs.Reach.{changes_in}
 use Rattle.held_index.specs.Rules.{SetOutcome, answer_of, after_news, AreAsked, IsRightAnswer}
 use Rattle.held_index.specs.declared.stop.Stop.{Stop}
 use Rattle.held_index.proofs.Rules.{IsRightAnswer-finished}
-use Rattle.pair_meaning.proofs.Names.{picked-all, either-left, either-right}
+use Rattle.held_index.proofs.WantLemmas.{all_whole-plain, contents-all_whole}
+use Rattle.pair_meaning.proofs.Names.{picked-all}
 use Rattle.pair_meaning.proofs.Keys.{names, key-picked, names-apart}
+use Rattle.pair_meaning.proofs.Paired.{listed-map}
 use Rattle.choice_meaning.specs.Choices.{ChoiceOn, set_at, condition, chosen_number, chosen_point, condition_key, operand_key, point_at, is_true_in, chosen_values, is_beyond, in_range, made_of, choice_working, choice_meaning}
 use Rattle.choice_meaning.specs.Typed.{IsTypedChoice}
 use Rattle.choice_meaning.proofs.Keys.{key-back, condition-structure}
-use Rattle.choice_ops.specs.Noted.{AllPlain, contents, change_at, Sees, noted_at, keys_from, IsNoted}
+use Rattle.choice_ops.specs.Noted.{change_at, Sees, noted_at, keys_from, IsNoted}
 use Rattle.choice_ops.specs.Plans.{choice_in}
-use Rattle.choice_ops.specs.Rules.{whole, all_whole, wanted_of}
+use Rattle.choice_ops.specs.Rules.{wanted_of}
 use Rattle.choice_ops.proofs.Places.{chosen-within}
 
 -- ---- what is noted
@@ -142,15 +142,6 @@ set-after [] (x ∷ xs) long n key = absurd (omega (arith, long))
 set-after (d ∷ ds) [] long n key = absurd (omega (arith, long))
 set-after (d ∷ ds) (x ∷ xs) long zero key = get-apply key_cmp-IsTotalOrder key_cmp-IsAntisymmetric d x key
 set-after (d ∷ ds) (x ∷ xs) long (suc n) key = set-after ds xs (omega (arith, long)) n key
-
--- what a listed key comes to is listed
-listed-map : (f : List Value → List Value) (k : List Value) (ks : List (List Value)) → is_listed key_cmp ks k ≡ true → is_listed key_cmp (map f ks) (f k) ≡ true
-listed-map f k [] h = cc
-listed-map f k (j ∷ js) h = by_test (listed-map f k js) (eq_by_cmp key_cmp k j) refl h
-  where
-    by_test : (is_listed key_cmp js k ≡ true → is_listed key_cmp (map f js) (f k) ≡ true) → (b : Bool) → eq_by_cmp key_cmp k j ≡ b → (b || is_listed key_cmp js k) ≡ true → (eq_by_cmp key_cmp (f k) (f j) || is_listed key_cmp (map f js) (f k)) ≡ true
-    by_test later true e i = either-left (eq_by_cmp key_cmp (f k) (f j)) (is_listed key_cmp (map f js) (f k)) (subst (λ (q : List Value). eq_by_cmp key_cmp (f k) (f q) ≡ true) (tied key_cmp-IsTotalOrder key_cmp-IsAntisymmetric k j e) (tied_to_itself key_cmp-IsTotalOrder (f k)))
-    by_test later false e i = either-right (eq_by_cmp key_cmp (f k) (f j)) (is_listed key_cmp (map f js) (f k)) (later i)
 
 -- a key of an operand that comes to none of the keys has no change
 unlisted-change : (c : ChoiceOn) (j : ℕ) (ds : List Changes) (n : ℕ) (k q : List Value) → is_listed key_cmp (keys_from c j ds) k ≡ false → condition_key c (j + n) q ≡ k → change_at ds n q ≡ None
@@ -246,19 +237,6 @@ module _ (c : ChoiceOn) (typed : IsTypedChoice c) (some : 0 < length c.operands)
 
 -- ---- what is held
 
-contents-are : (k : ℕ) (ss : List (List Component)) (xs ys : List DataSet) → drop k xs ≡ ys → length ys ≡ length ss → contents (map (holding_of xs) (all_whole k ss)) ≡ ys
-contents-are k [] xs [] left long = refl
-contents-are k [] xs (y ∷ ys) left long = absurd (omega (arith, long))
-contents-are k (s ∷ ss) xs [] left long = absurd (omega (arith, long))
-contents-are k (s ∷ ss) xs (y ∷ ys) left long =
-    let own : operand k xs ≡ y = ap (λ (o : Option DataSet). unwrap_or o empty) (head-at k xs y ys left) in
-    let rest = contents-are (k + 1) ss xs ys (tail-at k xs y ys left) (omega (arith, long)) in
-    λ i. own i ∷ rest i
-
-all-plain : (k : ℕ) (ss : List (List Component)) (xs : List DataSet) → AllPlain (map (holding_of xs) (all_whole k ss))
-all-plain k [] xs = All-nil (λ h. IsPlain h.want)
-all-plain k (s ∷ ss) xs = All-cons (λ h. IsPlain h.want) (holding_of xs (whole k)) (map (holding_of xs) (all_whole (k + 1) ss)) (record { one_part = refl; by_key = refl }) (all-plain (k + 1) ss xs)
-
 module _ (o : Operator) (typed : IsTypedChoice (choice_in o)) (held : List Holding) (news : List Changes) (long : length news ≡ length o.operands) (n : SetDraft) where
   abbrev on : ChoiceOn
   on = choice_in o
@@ -269,8 +247,8 @@ module _ (o : Operator) (typed : IsTypedChoice (choice_in o)) (held : List Holdi
   asked-right : AllNoted → 0 < length o.operands → (before : ℕ) (xs : List DataSet) (x : DataSet) → AreAsked (AllZip IsBoundedSetOf o.operands) (choice_meaning on) (wanted_of o) held news before xs x → IsRight (choice_meaning on (after_news news xs)) x (finished before n)
   asked-right noted some before xs x asked =
       let as_many : length xs ≡ length o.operands = AllZip-long IsBoundedSetOf o.operands xs asked.admitted in
-      let are : contents held ≡ xs = ap contents (sym asked.held_is) ∙ contents-are 0 o.operands xs xs refl as_many in
-      let plain : AllPlain held = subst AllPlain asked.held_is (all-plain 0 o.operands xs) in
+      let are : contents held ≡ xs = ap contents (sym asked.held_is) ∙ contents-all_whole xs (length o.operands) as_many in
+      let plain : AllPlain held = subst AllPlain asked.held_is (all_whole-plain xs (length o.operands)) in
       let sees : Sees held news (after_news news xs) = subst (λ (us : List DataSet). (i : ℕ) (key : List Value) → get (set_at (after_news news xs) i) key ≡ after (change_at news i key) (get (set_at us i) key)) (sym are) (set-after news xs (long ∙ sym as_many)) in
       let all : IsNoted on xs (after_news news xs) (keys_from on 0 news) n = subst (λ (us : List DataSet). IsNoted on us (after_news news xs) (keys_from on 0 news) n) are (noted (after_news news xs) plain sees) in
       right-noted on typed some news xs asked.admitted asked.admitted_after (long ∙ sym as_many) x before n all asked.result_is asked.count

@@ -1,9 +1,8 @@
 -- Values by their numbers, in place of names.
-use Rattle.std.proofs.Common.{◌≡◌, ℕ, zero, suc, ◌+◌, ◌<◌, List, [], ◌∷◌, ◌++◌, map, length, Bool, true, false, ◌&&◌, cond, not, Option, Some, None, IfSome, option_map, nat_lt, get_or, refl, sym, ap, subst, ◌∙◌, arith}
+use Rattle.std.proofs.Common.{◌≡◌, ℕ, zero, suc, ◌+◌, ◌<◌, List, [], ◌∷◌, ◌++◌, map, length, Bool, true, false, ◌&&◌, cond, Option, Some, None, IfSome, option_map, get_or, refl, sym, ap, subst, ◌∙◌, arith, add-one}
 use Rattle.std.specs.Prelude.{find, filter_map, slice_get, unwrap_or, zip}
 use Rattle.std.specs.Option.{option_map_or}
-use Rattle.std.specs.List.{cons_option, position, position_or_len, range_with_len}
-use Rattle.std.proofs.lemmas.Bool.Decides.{nat_tests}
+use Rattle.std.specs.List.{cons_option, position, range_with_len}
 use Rattle.std.proofs.lemmas.List.{map-id, length-map}
 use Rattle.std.proofs.lemmas.List.FromFn.{fill_by_all}
 use Rattle.std.proofs.lemmas.Option.{slice_get-get_or, slice_get-map}
@@ -12,6 +11,7 @@ use Rattle.vtl_values.specs.declared.structure.Component.{Component}
 use Rattle.vtl_values.specs.declared.value.Value.{Value}
 use Rattle.scalar_meaning.specs.Logic.{holds}
 use Rattle.scalar_meaning.specs.Rows.{point_row}
+use Rattle.structured_sets.proofs.Lists.{position-cons}
 use Rattle.clause_trees.specs.Frames.{has_role}
 use Rattle.clause_meaning.specs.Clauses.{values_at, values_on}
 use Rattle.data_set_trees.specs.declared.tree.Branch.{Branch}
@@ -28,39 +28,21 @@ use Rattle.choice_ops.specs.declared.values.ViralPlaces.{ViralPlaces}
 
 -- ---- the first that passes
 
--- it is the first one, or comes one later than among the others
-position-cons : {A : Type 0} (p : A → Bool) (x : A) (xs : List A) → position p (x ∷ xs) ≡ cond (p x) (Some 0) (option_map suc (position p xs))
-position-cons p x xs = by_test (p x)
-  where
-    next : (b : Bool) (n : ℕ) → cond b (Some (1 + n)) None ≡ option_map suc (cond b (Some n) None)
-    next true n = ap Some (omega arith)
-    next false n = refl
-
-    later : (n m : ℕ) → nat_lt (1 + n) (suc m) ≡ nat_lt n m
-    later n m = grind (arith, nat_tests)
-
-    first : (m : ℕ) → nat_lt 0 (suc m) ≡ true
-    first m = grind (arith, nat_tests)
-
-    by_test : (b : Bool) → cond (nat_lt (cond (not b) (1 + position_or_len p xs) 0) (suc (length xs))) (Some (cond (not b) (1 + position_or_len p xs) 0)) None ≡ cond b (Some 0) (option_map suc (position p xs))
-    by_test true = ap (λ b. cond b (Some 0) None) (first (length xs))
-    by_test false = ap (λ b. cond b (Some (1 + position_or_len p xs)) None) (later (position_or_len p xs) (length xs)) ∙ next (nat_lt (position_or_len p xs) (length xs)) (position_or_len p xs)
-
 pub none-in : (place : Option ℕ) → None ≡ value_with [] place
 none-in None = refl
 none-in (Some number) = refl
 
--- so is its value
+-- its value is the one with its number
 pub value-placed : (passes : Component → Bool) (cs : List Component) (vs : List Value) → value_where passes cs vs ≡ value_with vs (position passes cs)
 value-placed passes [] vs = refl
 value-placed passes (c ∷ cs) [] = none-in (position passes (c ∷ cs))
 value-placed passes (c ∷ cs) (v ∷ vs) = by_test (passes c) (value-placed passes cs vs) ∙ sym (ap (value_with (v ∷ vs)) (position-cons passes c cs))
   where
-    among_others : (place : Option ℕ) → value_with vs place ≡ value_with (v ∷ vs) (option_map suc place)
+    among_others : (place : Option ℕ) → value_with vs place ≡ value_with (v ∷ vs) (option_map (λ i. i + 1) place)
     among_others None = refl
-    among_others (Some number) = refl
+    among_others (Some number) = rw add-one refl
 
-    by_test : (b : Bool) → value_where passes cs vs ≡ value_with vs (position passes cs) → option_map (λ (q : Component × Value). q.1) (cond b (Some (c, v)) (find (λ (q : Component × Value). passes q.0) (zip cs vs))) ≡ value_with (v ∷ vs) (cond b (Some 0) (option_map suc (position passes cs)))
+    by_test : (b : Bool) → value_where passes cs vs ≡ value_with vs (position passes cs) → option_map (λ (q : Component × Value). q.1) (cond b (Some (c, v)) (find (λ (q : Component × Value). passes q.0) (zip cs vs))) ≡ value_with (v ∷ vs) (cond b (Some 0) (option_map (λ i. i + 1) (position passes cs)))
     by_test true is = refl
     by_test false is = is ∙ among_others (position passes cs)
 

@@ -1,5 +1,5 @@
 -- What the rule of a conditional notes.
-use Rattle.std.specs.Prelude.{◌≡◌, ◌++◌, ◌+◌, ℕ, List, [], ◌∷◌, All, map, slice_get, Option, option_and_then}
+use Rattle.std.specs.Prelude.{◌≡◌, ◌++◌, ◌+◌, ℕ, List, [], ◌∷◌, map, slice_get, Option, option_and_then}
 use Rattle.std.specs.FinMap.{get, keys}
 use Rattle.vtl_values.specs.declared.value.Value.{Value}
 use Rattle.vtl_values.specs.Order.{key_cmp}
@@ -8,16 +8,8 @@ use Rattle.data_model.specs.Drafts.{note_key, IsDraft}
 use Rattle.point_sets.specs.DataSets.{DataSet}
 use Rattle.point_sets.specs.Changes.{Changes, values_eq}
 use Rattle.held_index.specs.Drafts.{SetDraft}
-use Rattle.held_index.specs.Holdings.{Holding, IsPlain}
+use Rattle.held_index.specs.Holdings.{Holding, contents}
 use Rattle.choice_meaning.specs.Choices.{ChoiceOn, set_at, condition_key, choice_working}
-
--- all operands are held in one part, by their keys
-abbrev pub AllPlain : List Holding → Type 0
-AllPlain held = All (λ h. IsPlain h.want) held
-
--- what is held of the operands
-abbrev pub contents : List Holding → List DataSet
-contents held = map (λ h. h.content) held
 
 -- the change of a key in the news of the operand with this number
 abbrev pub change_at : List Changes → ℕ → List Value → Option (Pair (List Value))

@@ -6,8 +6,9 @@ ghost use Rattle.std.specs.FinMap as finmap;
 ghost use Rattle.data_model.specs.Deltas.{after};
 ghost use Rattle.point_sets.specs.DataSets.{HasKey};
 ghost use Rattle.point_sets.specs.Changes.{values_of};
+ghost use Rattle.held_index.specs.Holdings.{AllPlain, contents};
 ghost use Rattle.choice_meaning.specs.Choices.{set_at};
-ghost use Rattle.choice_ops.specs.Noted.{AllPlain, contents, change_at};
+ghost use Rattle.choice_ops.specs.Noted.{change_at};
 
 use data_model::steps::Steps;
 use held_index::Held;
@@ -43,23 +44,7 @@ pub(crate) fn after_news<'a>(
     ensures key { HasKey key.now (option_copied before.entry) → HasKey key.now (option_copied result) }
 {
     match news.get(number) {
-        Some(delta) => point_after(delta, key, before),
+        Some(delta) => delta.point_after(key, before),
         None => before,
-    }
-}
-
-/// The point that a key has after a delta.
-fn point_after<'a>(
-    delta: &'a Delta,
-    key: &Key,
-    before: Option<&'a Arc<Point>>,
-) -> Option<&'a Arc<Point>>
-    ensures found { values_of (option_copied result) ≡ after (finmap.get delta.now key.now) (values_of (option_copied before.entry)) }
-    ensures key { HasKey key.now (option_copied before.entry) → HasKey key.now (option_copied result) }
-{
-    let changes = delta.changes();
-    match changes.binary_search_by(|change| change.key.cmp(key)) {
-        Ok(place) => changes[place].new.as_ref(),
-        Err(_) => before,
     }
 }

@@ -8,10 +8,11 @@ ghost use Rattle.data_model.specs.Drafts as drafts;
 ghost use Rattle.point_sets.specs.DataSets.{DataSet, HasKey};
 ghost use Rattle.point_sets.specs.Changes.{values_eq, values_of};
 ghost use Rattle.held_index.specs.Reach.{changes_in};
+ghost use Rattle.held_index.specs.Holdings.{AllPlain, contents};
 ghost use Rattle.clause_eval.specs.Evaluations as found;
 ghost use Rattle.choice_meaning.specs.Choices.{set_at, chosen_number, condition_key, operand_key, choice_working};
 ghost use Rattle.choice_ops.specs.Plans.{choice_in};
-ghost use Rattle.choice_ops.specs.Noted.{AllPlain, Sees, contents, change_at, noted_at, keys_from, IsNoted};
+ghost use Rattle.choice_ops.specs.Noted.{Sees, change_at, noted_at, keys_from, IsNoted};
 
 use crate::looks::{after_news, look};
 use crate::plan::ChoicePlan;

@@ -8,6 +8,8 @@ ghost use Rattle.scalar_meaning.specs.Logic as logic;
 ghost use Rattle.scalar_meaning.specs.Rows.{point_row};
 ghost use Rattle.clause_eval.specs.Evaluations.{IsEvaluation};
 ghost use Rattle.clause_meaning.specs.Clauses.{values_on};
+ghost use Rattle.data_set_trees.specs.declared.tree.ChoiceMeasure.{ChoiceMeasure as Measured};
+ghost use Rattle.data_set_trees.specs.declared.tree.DataSetOperator.TheVariants.{Choice};
 ghost use Rattle.checked_trees.specs.Operators.{an_operator};
 ghost use Rattle.choice_meaning.specs.Choices as meant;
 ghost use Rattle.choice_meaning.specs.Typed.{IsTypedChoice};
@@ -24,6 +26,7 @@ use sqlite_items::Items;
 use std::alloc::{AllocError, Global};
 use std::marker::Model;
 use std::sync::Arc;
+use structured_sets::copy_all;
 use vtl_values::{Component, Structure, Value};
 
 /// The numbers of the values of a key of the condition in a key of an operand, and the other way round.
@@ -56,16 +59,6 @@ impl Model for ChoicePlan {
     ghost view = { λ p. an_operator p.operator p.operands p.structure };
 
     ghost invariant = { λ p. IsPlan (choice_in (an_operator p.operator p.operands p.structure)) p.keys p.test p.virals };
-}
-
-fn copy_all(alloc: Global, structures: &[Structure]) -> Result<Items<Structure>, AllocError>
-    ensures { IfOk result (λ copies. copies ≡ structures.now) }
-{
-    let mut copies = Vec::new(alloc);
-    for structure in structures {
-        copies.push(structure.copy()?)?;
-    }
-    Ok(Items::from_vec(copies))
 }
 
 fn measures_of(operator: &DataSetOperator) -> &[ChoiceMeasure]
@@ -190,6 +183,14 @@ impl ChoicePlan {
             test: measure_number(first),
             virals,
         })
+    }
+
+    /// The branches of the operator, which is a conditional.
+    pub(crate) fn branches(&self) -> (Branch, Branch)
+        ensures { (measures : List Measured) × (self.now.operator ≡ Choice result.0 result.1 measures) }
+    {
+        let operator = self.operator.get();
+        (holds_of(operator), fails_of(operator))
     }
 
     /// The structure of the result.

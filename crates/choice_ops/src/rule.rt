@@ -1,15 +1,16 @@
 // The rule of a conditional on data sets.
-ghost use Rattle.std.specs.Prelude.{◌≡◌, IfOk};
+ghost use Rattle.std.specs.Prelude.{◌≡◌, List, IfOk};
+ghost use Rattle.data_set_trees.specs.declared.tree.ChoiceMeasure.{ChoiceMeasure as Measured};
+ghost use Rattle.data_set_trees.specs.declared.tree.DataSetOperator.TheVariants.{Choice};
 ghost use Rattle.checked_trees.specs.Operators.{an_operator};
 ghost use Rattle.choice_meaning.specs.Typed.{IsTypedChoice};
 ghost use Rattle.choice_ops.specs.Plans.{choice_in};
-ghost use Rattle.choice_ops.specs.Rules as rules;
 
 use crate::notes::noted;
 use crate::plan::ChoicePlan;
 use data_model::steps::Steps;
-use data_set_trees::DataSetNode;
-use held_index::{DeltaRule, Held, Stop, Want};
+use data_set_trees::{Branch, DataSetNode};
+use held_index::{DeltaRule, Held, Stop, Want, all_whole};
 use point_sets::Delta;
 use sqlite_items::Items;
 use std::alloc::{AllocError, Global};
@@ -39,28 +40,6 @@ impl Model for ChoiceRule {
     ghost invariant = { λ r. IsRule r.plan r.wants };
 }
 
-fn whole(alloc: Global, operand: u64) -> Want
-    ensures { result ≡ rules.whole operand }
-{
-    Want {
-        operand,
-        part: Items::from_vec(Vec::new(alloc)),
-        order: Items::from_vec(Vec::new(alloc)),
-        sums: Items::from_vec(Vec::new(alloc)),
-    }
-}
-
-/// All operands of these structures, whole.
-fn all_whole(alloc: Global, operands: &[Structure]) -> Result<Items<Want>, AllocError>
-    ensures { IfOk result (λ wants. wants ≡ rules.all_whole 0 operands.now) }
-{
-    let mut wants = Items::new(alloc);
-    for (number, _) in operands.iter().enumerate() {
-        wants.push(whole(alloc, number as u64))?;
-    }
-    Ok(wants)
-}
-
 impl ChoiceRule {
     /// The rule of a node's operator, which is a conditional.
     pub fn of(alloc: Global, node: &DataSetNode) -> Result<ChoiceRule, AllocError>
@@ -69,8 +48,15 @@ impl ChoiceRule {
     {
         Ok(ChoiceRule {
             plan: ChoicePlan::of(alloc, node)?,
-            wants: all_whole(alloc, node.operands.as_slice())?,
+            wants: all_whole(alloc, node.operands.len())?,
         })
+    }
+
+    /// The branches of the operator, which is a conditional.
+    pub fn branches(&self) -> (Branch, Branch)
+        ensures { (measures : List Measured) × (self.now.operator ≡ Choice result.0 result.1 measures) }
+    {
+        self.plan.branches()
     }
 }
 

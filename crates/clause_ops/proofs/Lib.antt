@@ -1,3 +1,4 @@
 pub mod Marked
 pub mod Measured
+pub mod Meant
 pub mod Shared

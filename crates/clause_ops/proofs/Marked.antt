@@ -45,10 +45,7 @@ use Rattle.held_index.specs.Rules.{SetOutcome, answer_of, after_news, AreAsked, 
 use Rattle.held_index.specs.declared.stop.Stop.{Stop}
 use Rattle.held_index.proofs.Rules.{IsRightAnswer-finished}
 use Rattle.clause_ops.specs.Noted.{noted_at, noted_change, IsNoted}
-use Rattle.data_set_trees.specs.declared.tree.DataSetOperator.TheVariants.{Clause}
-use Rattle.checked_trees.specs.Operators.{Operator}
-use Rattle.operator_meaning.specs.Operators.{meaning_of, AreOperands}
-use Rattle.clause_ops.specs.Rules.{on_one}
+use Rattle.operator_meaning.specs.Operators.{clause_on, AreOperands}
 
 -- ---- lists of keys
 
@@ -211,13 +208,16 @@ module _ (clause : CheckedClause) (frame : Frame) (first : HasIdentifiersFirst f
 
 -- ---- the answer
 
-module _ (clause : CheckedClause) (operand structure : List Component) (d : Changes) (before : ℕ) (n : SetDraft) (held : List Holding) (first : HasIdentifiersFirst (frame_of operand))
+module _ (clause : CheckedClause) (operand : List Component) (d : Changes) (before : ℕ) (n : SetDraft) (held : List Holding) (first : HasIdentifiersFirst (frame_of operand))
     (noted : (a : DataSet) → IsSetOf operand a → IsSetOf operand (apply d a) → BeginsAt d a → IsNoted clause (frame_of operand) d a (keys d) n) where
-  abbrev o : Operator
-  o = on_one (Clause clause) operand structure
+  abbrev admits : List DataSet → Type 0
+  admits = AreOperands (operand ∷ [])
+
+  abbrev meaning : List DataSet → SetOutcome
+  meaning = clause_on clause (operand ∷ [])
 
   -- whichever operand the rule is asked for, the finished draft is right where all changes are noted
-  asked-right : (xs : List DataSet) (x : DataSet) → AreAsked (AreOperands o.operands) (meaning_of o) [] held (d ∷ []) before xs x → IsRight (meaning_of o (after_news (d ∷ []) xs)) x (finished before n)
+  asked-right : (xs : List DataSet) (x : DataSet) → AreAsked admits meaning [] held (d ∷ []) before xs x → IsRight (meaning (after_news (d ∷ []) xs)) x (finished before n)
   asked-right [] x asked = absurd asked.admitted
   asked-right (a ∷ b ∷ xs) x asked = absurd asked.admitted.1
   asked-right (a ∷ []) x asked =
@@ -225,8 +225,8 @@ module _ (clause : CheckedClause) (operand structure : List Component) (d : Chan
       let new = asked.admitted_after.0.fits in
       right-answer clause (frame_of operand) first d a old new x before n (noted a old new asked.begins.0) asked.result_is asked.count
 
-  pub right-for-all : (answer : Result Changes Stop) → IfSome (answer_of answer) (λ a. a ≡ finished before n) → IsRightAnswer (AreOperands o.operands) (meaning_of o) [] held (d ∷ []) before answer
-  right-for-all answer ends = IsRightAnswer-finished (AreOperands o.operands) (meaning_of o) [] held (d ∷ []) before answer n ends asked-right
+  pub right-for-all : (answer : Result Changes Stop) → IfSome (answer_of answer) (λ a. a ≡ finished before n) → IsRightAnswer admits meaning [] held (d ∷ []) before answer
+  right-for-all answer ends = IsRightAnswer-finished admits meaning [] held (d ∷ []) before answer n ends asked-right
 
 pub one-in : {X : Type 0} (xs : List X) (p : X) → length xs ≡ 1 → p ≡ get_or xs 0 p → p ∷ [] ≡ xs
 one-in [] p l e = absurd (omega arith)

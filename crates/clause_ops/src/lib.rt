@@ -1,4 +1,4 @@
-//! The delta rule of clauses, and of scalar operators on one data set.
+//! The delta rule of clauses, on a data set and in a join, and of scalar operators on one data set.
 //!
 //! It stands on `clause_eval` for what a clause makes of a point, and on the drafts and the trait of rules of
 //! `held_index`. The changes of the operand carry the old point and the new one, and a clause works each point out by

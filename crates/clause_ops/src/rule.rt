@@ -1,9 +1,8 @@
 // The rule of a clause on one data set.
-ghost use Rattle.std.specs.Prelude.{◌≡◌, ◌∷◌, [], IfOk};
+ghost use Rattle.std.specs.Prelude.{◌≡◌, ◌∷◌, [], Some, IfOk};
 ghost use Rattle.vtl_values.specs.declared.structure.Component.{Component};
-ghost use Rattle.data_set_trees.specs.declared.tree.DataSetOperator.TheVariants.{Clause};
 ghost use Rattle.checked_trees.specs.Operators.{an_operator, IsTyped};
-ghost use Rattle.clause_ops.specs.Rules.{IsClause};
+ghost use Rattle.clause_ops.specs.Rules.{clause_in, IsClause};
 
 use crate::notes::noted;
 use clause_eval::picks;
@@ -20,7 +19,8 @@ use std::sync::ledger::Ledger;
 use std::thread::Threads;
 use vtl_values::Structure;
 
-/// The rule of a clause on a data set. It keeps the numbers of the values that the clause takes over.
+/// The rule of a clause on a data set, also of one in a join. It keeps the numbers of the values that the clause takes
+/// over.
 #[derive(Drop)]
 pub struct ClauseRule {
     operator: SharedOperator,
@@ -42,13 +42,13 @@ impl Model for ClauseRule {
     ghost invariant = { λ r. IsRule r.operator r.operand r.structure r.picks };
 }
 
-/// The clause that an operator is.
+/// The clause that an operator is, on a data set or in a join.
 fn clause_of(operator: &DataSetOperator) -> &CheckedClause
     requires { IsClause operator.now }
-    ensures { operator.now ≡ Clause result.now }
+    ensures { clause_in operator.now ≡ Some result.now }
 {
     match operator {
-        DataSetOperator::Clause(clause) => clause,
+        DataSetOperator::Clause(clause) | DataSetOperator::InJoin(clause) => clause,
         _ => unreachable!(),
     }
 }

@@ -26,9 +26,10 @@ use Rattle.held_index.specs.Rules.{answer_of, after_news, AreAsked, IsRightAnswe
 use Rattle.held_index.specs.declared.stop.Stop.{Stop}
 use Rattle.held_index.specs.declared.want.Want.{Want}
 use Rattle.held_index.proofs.Rules.{IsRightAnswer-finished}
+use Rattle.held_index.specs.Wants.{in_parts}
 use Rattle.exists_meaning.specs.Exists.{ExistsOn, exists_on, exists_meaning}
 use Rattle.exists_meaning.specs.Typed.{IsTypedExistsOn}
-use Rattle.exists_ops.specs.Parts.{AreShifts, left_want, parted, right_numbers, right_want, shared_number}
+use Rattle.exists_ops.specs.Parts.{AreShifts, left_want, right_numbers, right_want, shared_number}
 use Rattle.exists_ops.specs.Noted.{IsFor, IsNoted}
 use Rattle.exists_ops.specs.Rules.{both, operator_of, meaning_of, wanted_of, AreOperands, IsExists}
 use Rattle.pair_ops.specs.Reach.{matching_reach}
@@ -74,12 +75,12 @@ typed-on o is rows l r s operands structure =
       is_first = structure ∙ is.takes.gives ∙ ap exists_structure (sym same.0);
     }
 
-pub wants-built : (rows : ExistsRows) (l r s ours theirs : List Component) (n m : List ℕ) → ours ≡ l → theirs ≡ r → n ≡ filter_map (shared_number ours ours) theirs → m ≡ filter_map (shared_number theirs ours) theirs → parted 0 n ∷ parted 1 m ∷ [] ≡ both (exists_on rows l r s)
+pub wants-built : (rows : ExistsRows) (l r s ours theirs : List Component) (n m : List ℕ) → ours ≡ l → theirs ≡ r → n ≡ filter_map (shared_number ours ours) theirs → m ≡ filter_map (shared_number theirs ours) theirs → in_parts 0 n ∷ in_parts 1 m ∷ [] ≡ both (exists_on rows l r s)
 wants-built rows l r s ours theirs n m own its first second =
     let e = exists_on rows l r s in
     let one = first ∙ (λ i. filter_map (shared_number (own i) (own i)) (its i)) ∙ shared-numbers e l in
     let two = second ∙ (λ i. filter_map (shared_number (its i) (own i)) (its i)) ∙ shared-numbers e r in
-    λ i. parted 0 (one i) ∷ parted 1 (two i) ∷ []
+    λ i. in_parts 0 (one i) ∷ in_parts 1 (two i) ∷ []
 
 -- ---- the steps
 

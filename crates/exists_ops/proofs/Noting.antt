@@ -30,6 +30,7 @@ use Rattle.point_sets.specs.DataSets.{DataSet}
 use Rattle.point_sets.specs.declared.delta.Change.{Change}
 use Rattle.point_sets.specs.Changes.{Changes, change_entry, values_eq, values_of, AreChanges}
 use Rattle.point_sets.proofs.Changes.{values_eq-IsEqualityTest}
+use Rattle.point_sets.proofs.Found.{change_at}
 use Rattle.clause_trees.specs.Frames.{numbers_of}
 use Rattle.data_set_trees.specs.Components.{identifiers}
 use Rattle.pair_meaning.proofs.Names.{either-left, either-right}
@@ -47,7 +48,6 @@ use Rattle.exists_ops.specs.Walked.{met_in, keys_in, walked_in, walked, part_cos
 use Rattle.exists_ops.specs.declared.notes.Met.{Met}
 use Rattle.exists_ops.specs.declared.parts.Shift.{Shift}
 use Rattle.exists_ops.specs.declared.told.Told.{Told}
-use Rattle.pair_ops.proofs.Found.{change_at}
 use Rattle.exists_ops.proofs.PartLemmas.{entries-there, long-key, part-is, has-after, met-part}
 use Rattle.exists_ops.proofs.ShiftLemmas.{first-more}
 

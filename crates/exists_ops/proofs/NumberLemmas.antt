@@ -1,10 +1,8 @@
 -- Values by the numbers of identifiers, and by their names.
-use Rattle.std.proofs.Common.{◌≡◌, ℕ, zero, suc, ◌+◌, ◌≤◌, List, [], ◌∷◌, ◌++◌, map, length, get_or, Bool, true, false, not, ◌&&◌, ◌||◌, cond, if◌then◌else◌, Option, Some, None, option_map, unwrap_or, nat_lt, refl, sym, ap, ◌∙◌, inl, inr, arith, add-one}
+use Rattle.std.proofs.Common.{◌≡◌, ℕ, zero, suc, ◌+◌, ◌≤◌, List, [], ◌∷◌, ◌++◌, map, length, get_or, Bool, true, false, not, ◌&&◌, ◌||◌, cond, if◌then◌else◌, Option, Some, None, option_map, unwrap_or, refl, sym, ap, ◌∙◌, arith, add-one}
 use Rattle.std.specs.Prelude.{filter, filter_map, find, slice_get, zip}
 use Rattle.std.specs.Option.{is_some}
-use Rattle.std.specs.List.{All, cons_option, position, prefix_len}
-use Rattle.std.proofs.lemmas.Bool.{cases_Bool}
-use Rattle.std.proofs.lemmas.Bool.Decides.{nat_tests}
+use Rattle.std.specs.List.{All, cons_option, position}
 use Rattle.std.proofs.lemmas.List.Elements.{All-nil, All-cons, All-head, All-tail}
 use Rattle.vtl_values.specs.Structures.{IsStructure}
 use Rattle.vtl_values.specs.declared.kind.Role.TheVariants.{Identifier}
@@ -12,6 +10,7 @@ use Rattle.vtl_values.specs.declared.structure.Component.{Component}
 use Rattle.vtl_values.specs.declared.value.Value.{Value}
 use Rattle.vtl_values.specs.declared.value.Value.TheVariants.{Null}
 use Rattle.structured_sets.specs.Fitting.{is_identifier, others}
+use Rattle.structured_sets.proofs.Lists.{position-cons}
 use Rattle.held_index.specs.Walks.{component_of, part_key}
 use Rattle.clause_trees.specs.Frames.{has_role}
 use Rattle.clause_meaning.proofs.ByRole.{of-identifiers}
@@ -24,29 +23,6 @@ use Rattle.exists_meaning.specs.Exists.{ExistsOn, common}
 use Rattle.exists_ops.specs.Parts.{number_of, shared_number, numbers_in, key_part}
 
 -- ---- the place of the first that passes
-
-later_within : (n m : ℕ) → nat_lt (1 + n) (suc m) ≡ nat_lt n m
-later_within n m = elim (cases_Bool (nat_lt n m)) [
-  | inl yes' ↦ (let more : nat_lt (1 + n) (suc m) ≡ true = grind (arith, nat_tests, yes') in more) ∙ sym yes'
-  | inr no' ↦ (let none : nat_lt (1 + n) (suc m) ≡ false = grind (arith, nat_tests, no') in none) ∙ sym no'
-]
-
-first_within : (m : ℕ) → nat_lt 0 (suc m) ≡ true
-first_within m = grind (arith, nat_tests)
-
-by_place : (b : Bool) (n : ℕ) → cond b (Some (1 + n)) None ≡ option_map (λ i. i + 1) (cond b (Some n) None)
-by_place true n = ap Some (omega arith)
-by_place false n = refl
-
-pub position-cons : {X : Type 0} (p : X → Bool) (x : X) (xs : List X) → position p (x ∷ xs) ≡ cond (p x) (Some 0) (option_map (λ i. i + 1) (position p xs))
-position-cons p x xs = by_test (p x)
-  where
-    before : ℕ
-    before = prefix_len (λ y. not (p y)) xs
-
-    by_test : (b : Bool) → cond (nat_lt (cond (not b) (1 + before) 0) (suc (length xs))) (Some (cond (not b) (1 + before) 0)) None ≡ cond b (Some 0) (option_map (λ i. i + 1) (position p xs))
-    by_test true = ap (λ t. cond t (Some 0) None) (first_within (length xs))
-    by_test false = ap (λ t. cond t (Some (1 + before)) None) (later_within before (length xs)) ∙ by_place (nat_lt before (length xs)) before
 
 none-passes : {X : Type 0} (p : X → Bool) (xs : List X) → All (λ x. p x ≡ false) xs → position p xs ≡ None
 none-passes p [] all = refl

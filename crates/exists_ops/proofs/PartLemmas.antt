@@ -1,7 +1,7 @@
 -- The points of a part, and which keys of the first operand are met.
 use Rattle.std.proofs.Common.{◌≡◌, ℕ, suc, ◌+◌, List, [], ◌∷◌, map, length, get_or, Bool, true, false, ◌||◌, cond, Option, Some, None, IfSome, nat_lt, T, refl, sym, ap, subst, ◌∙◌, inl, inr, arith}
 use Rattle.std.specs.Prelude.{filter}
-use Rattle.std.specs.List.{All, AllByRecursion, AllZip, count_by, list_any}
+use Rattle.std.specs.List.{All, AllByRecursion, count_by, list_any}
 use Rattle.std.specs.Cmp.{IsTotalOrder}
 use Rattle.std.specs.Prelude.{◌&&◌}
 use Rattle.std.specs.Ordering.{eq_by_cmp, is_lt, is_eq, ordering_reverse}
@@ -12,6 +12,7 @@ use Rattle.std.specs.FinMap.Entries.{below_all, where_key, is_sorted-where_key, 
 use Rattle.std.proofs.lemmas.Bool.{cases_Bool}
 use Rattle.std.proofs.lemmas.Bool.Decides.{nat_tests}
 use Rattle.std.proofs.lemmas.List.Elements.{All-head, All-tail, All-map}
+use Rattle.std.proofs.lemmas.Slice.Zip.{AllZip-long}
 use Rattle.vtl_values.specs.Structures.{IsStructure}
 use Rattle.vtl_values.specs.declared.structure.Component.{Component}
 use Rattle.vtl_values.specs.declared.value.Value.{Value}
@@ -30,10 +31,11 @@ use Rattle.data_set_trees.specs.Components.{identifiers}
 use Rattle.held_index.specs.Holdings.{part_of}
 use Rattle.held_index.specs.WalkLaws.{place_cmp-IsTotalOrder}
 use Rattle.held_index.specs.Walks.{PointValues, part_key, place_cmp}
+use Rattle.held_index.specs.Wants.{in_parts}
 use Rattle.pair_meaning.specs.Pairs.{key_between}
 use Rattle.exists_meaning.specs.Exists.{ExistsOn, common, right_values, is_met}
 use Rattle.exists_meaning.specs.Typed.{IsTypedExistsOn}
-use Rattle.exists_ops.specs.Parts.{numbers_in, left_numbers, parted, right_want, key_part, is_in, shift_in, has_part, has_part_after}
+use Rattle.exists_ops.specs.Parts.{numbers_in, left_numbers, right_want, key_part, is_in, shift_in, has_part, has_part_after}
 use Rattle.exists_ops.proofs.NumberLemmas.{part-values, same-part}
 
 -- ---- lists in order
@@ -60,7 +62,7 @@ less Greater h = absurd h
 -- so are the entries of a data set, by their keys
 module _ (n : ℕ) (numbers : List ℕ) where
   abbrev by_key : PointValues → PointValues → Ordering
-  by_key = place_cmp (parted n numbers)
+  by_key = place_cmp (in_parts n numbers)
 
   below-each : (p : PointValues) (ps : List PointValues) → T (below_all key_cmp p.0 ps) → AllByRecursion (λ q. by_key p q ≡ Less) ps
   below-each p [] h = tt
@@ -96,19 +98,13 @@ any-filtered {A = A} {B = B} p (e ∷ es) = by_test (p e.0) (any-filtered p es)
 
 -- ---- the points of a data set
 
-AllZip-length : {A B : Type 0} (F : A → B → Type 0) (xs : List A) (ys : List B) → AllZip F xs ys → length ys ≡ length xs
-AllZip-length F [] [] h = refl
-AllZip-length F [] (y ∷ ys) h = absurd h
-AllZip-length F (x ∷ xs) [] h = absurd h
-AllZip-length F (x ∷ xs) (y ∷ ys) h = ap suc (AllZip-length F xs ys h.1)
-
 pub entries-there : (m : DataSet) → All (λ (e : PointValues). get m e.0 ≡ Some e.1) (entries m)
 entries-there m i d within = get-entries m (get_or (entries m) i d).0 ∙ find-get_or key_cmp-IsTotalOrder (entries m) i d (entries_sorted m) within
 
 pub long-key : (from : List Component) (m : DataSet) → IsSetOf from m → (key rest : List Value) → get m key ≡ Some rest → length key ≡ length (identifiers from)
 long-key from m fit key rest there =
     let point : IsPointOf from key rest = subst (λ (o : Option (List Value)). IfSome o (IsPointOf from key)) there (fit key) in
-    AllZip-length FitsIdentifier (fitting.identifiers from) key point.key_fits ∙ ap length (sym (of-identifiers from))
+    AllZip-long FitsIdentifier (fitting.identifiers from) key point.key_fits ∙ ap length (sym (of-identifiers from))
 
 module _ (from : List Component) (is : IsStructure from) (both : List Component) (m : DataSet) (fit : IsSetOf from m) where
   abbrev numbers : List ℕ
@@ -118,13 +114,13 @@ module _ (from : List Component) (is : IsStructure from) (both : List Component)
   inside part = is_in numbers part
 
   -- a part has its points by their keys
-  pub part-is : (n : ℕ) (part : List Value) → part_of (parted n numbers) part m ≡ where_key key_cmp (inside part) (entries m)
+  pub part-is : (n : ℕ) (part : List Value) → part_of (in_parts n numbers) part m ≡ where_key key_cmp (inside part) (entries m)
   part-is n part =
       ap (in_order (by_key n numbers)) (filter-along (λ p. eq_by_cmp key_cmp (part_key numbers p) part) (λ p. inside part p.0) (entries m)
       (λ i d within. let p = get_or (entries m) i d in ap (λ (k : List Value). eq_by_cmp key_cmp k part) (same-part from is p.0 (long-key from m fit p.0 p.1 (entries-there m i d within)) p.1 both)))
-      ∙ in_order-same (place_cmp-IsTotalOrder (parted n numbers)) (where_key key_cmp (inside part) (entries m)) (sorted-ascends n numbers (where_key key_cmp (inside part) (entries m)) (is_sorted-where_key key_cmp (inside part) (entries m) (entries_sorted m)))
+      ∙ in_order-same (place_cmp-IsTotalOrder (in_parts n numbers)) (where_key key_cmp (inside part) (entries m)) (sorted-ascends n numbers (where_key key_cmp (inside part) (entries m)) (is_sorted-where_key key_cmp (inside part) (entries m) (entries_sorted m)))
 
-  pub has-part : (n : ℕ) (part : List Value) → has_part (parted n numbers) m part ≡ list_any (inside part) (keys m)
+  pub has-part : (n : ℕ) (part : List Value) → has_part (in_parts n numbers) m part ≡ list_any (inside part) (keys m)
   has-part n part = ap (λ (ps : List PointValues). nat_lt 0 (length ps)) (part-is n part) ∙ any-filtered (inside part) (entries m)
 
   -- the tests of keys by name
@@ -195,15 +191,15 @@ more-than g y = elim (cases_Bool (nat_lt 0 y)) [
 
 module _ (from : List Component) (is : IsStructure from) (both : List Component) (m : DataSet) (fit : IsSetOf from m) (d : Changes) (fit_after : IsSetOf from (apply d m)) (begins : BeginsAt d m) where
   -- what is kept of a part says whether it has a point after the news
-  pub has-after : (n : ℕ) (part : List Value) → has_part_after (parted n (numbers_in from (identifiers both))) m part (shift_in (numbers_in from (identifiers both)) (entries d) part) ≡ has_part (parted n (numbers_in from (identifiers both))) (apply d m) part
+  pub has-after : (n : ℕ) (part : List Value) → has_part_after (in_parts n (numbers_in from (identifiers both))) m part (shift_in (numbers_in from (identifiers both)) (entries d) part) ≡ has_part (in_parts n (numbers_in from (identifiers both))) (apply d m) part
   has-after n part =
       let ns = numbers_in from (identifiers both) in
       let s = shift_in ns (entries d) part in
       let old = ap length (part-is from is both m fit n part) in
       let new = ap length (part-is from is both (apply d m) fit_after n part) in
       let count = counted key_cmp-IsTotalOrder key_cmp-IsAntisymmetric (is_in ns part) d m begins in
-      let same : length (part_of (parted n ns) part m) + s.come ≡ length (part_of (parted n ns) part (apply d m)) + s.gone = omega (arith, old, new, count) in
-      ap (nat_lt s.gone) same ∙ more-than s.gone (length (part_of (parted n ns) part (apply d m)))
+      let same : length (part_of (in_parts n ns) part m) + s.come ≡ length (part_of (in_parts n ns) part (apply d m)) + s.gone = omega (arith, old, new, count) in
+      ap (nat_lt s.gone) same ∙ more-than s.gone (length (part_of (in_parts n ns) part (apply d m)))
 
 -- ---- keys of the first operand that are met
 

@@ -30,6 +30,7 @@ use Rattle.held_index.specs.Holdings.{Holding, part_of}
 use Rattle.held_index.specs.Walks.{PointValues, component_of, part_key}
 use Rattle.held_index.specs.WalkLaws.{place_cmp-IsTotalOrder}
 use Rattle.held_index.proofs.OrderLemmas.{length-in_order}
+use Rattle.structured_sets.proofs.Lists.{position-cons}
 use Rattle.pair_meaning.proofs.Joined.{Has, own-role}
 use Rattle.pair_meaning.proofs.Keys.{names, names-apart}
 use Rattle.pair_meaning.proofs.Names.{same-true, same-refl, named, is_in, Apart, either-left, either-right}
@@ -41,7 +42,7 @@ use Rattle.exists_ops.specs.Parts.{AreShifts, number_of, numbers_in, left_number
 use Rattle.pair_ops.specs.Reach.{NamedValue, named_values, agrees, agree, held_of, met_keys, main_points, pairs_with, matching_reach}
 use Rattle.exists_ops.specs.Walked.{part_cost, cost}
 use Rattle.exists_ops.specs.declared.parts.Shift.{Shift}
-use Rattle.exists_ops.proofs.NumberLemmas.{position-cons, number-some, first-part, is_called}
+use Rattle.exists_ops.proofs.NumberLemmas.{number-some, first-part, is_called}
 
 -- ---- counts
 

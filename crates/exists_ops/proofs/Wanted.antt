@@ -5,9 +5,11 @@ use Rattle.std.proofs.lemmas.List.Elements.{All-nil, All-cons}
 use Rattle.vtl_values.specs.declared.structure.Component.{Component}
 use Rattle.data_set_trees.specs.Components.{identifiers}
 use Rattle.held_index.specs.Holdings.{FitsStructure}
+use Rattle.held_index.proofs.WantLemmas.{in_parts-fits}
+use Rattle.structured_sets.proofs.Lists.{position-cons}
 use Rattle.exists_meaning.specs.Exists.{ExistsOn, common}
-use Rattle.exists_ops.specs.Parts.{number_of, numbers_in, left_want, parted, right_want}
-use Rattle.exists_ops.proofs.NumberLemmas.{position-cons, is_called}
+use Rattle.exists_ops.specs.Parts.{number_of, numbers_in, left_numbers, left_want, right_numbers, right_want}
+use Rattle.exists_ops.proofs.NumberLemmas.{is_called}
 
 number-within : (n : List ℕ) (cs : List Component) (i : ℕ) → number_of n cs ≡ Some i → i < length cs
 number-within n [] i e = cc
@@ -29,11 +31,8 @@ numbers-within s (c ∷ cs) = by_number (number_of c.name s) (number-within c.na
     by_number None within later = later
     by_number (Some i) within later = All-cons (λ j. j < length s) i (numbers_in s cs) (within i refl) later
 
-parted-fits : (n : ℕ) (s cs : List Component) → FitsStructure (parted n (numbers_in s cs)) s
-parted-fits n s cs = record { part = numbers-within s cs; order = λ k d within. absurd (omega (arith, within)); sums = λ k d within. absurd (omega (arith, within)) }
-
 pub left-fits : (e : ExistsOn) → FitsStructure (left_want e) e.left
-left-fits e = parted-fits 0 e.left (identifiers (common e))
+left-fits e = in_parts-fits 0 (left_numbers e) e.left (numbers-within e.left (identifiers (common e)))
 
 pub right-fits : (e : ExistsOn) → FitsStructure (right_want e) e.right
-right-fits e = parted-fits 1 e.right (identifiers (common e))
+right-fits e = in_parts-fits 1 (right_numbers e) e.right (numbers-within e.right (identifiers (common e)))

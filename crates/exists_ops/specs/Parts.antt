@@ -1,5 +1,5 @@
 -- How the points of both operands of `exists_in` are held, part by part, and what news make of parts.
-use Rattle.std.specs.Prelude.{◌≡◌, ℕ, ◌+◌, ◌≤◌, Bool, ◌&&◌, List, [], map, filter, filter_map, length, nat_lt, slice_get, Option, None, unwrap_or, is_some, if◌then◌else◌}
+use Rattle.std.specs.Prelude.{◌≡◌, ℕ, ◌+◌, ◌≤◌, Bool, ◌&&◌, List, map, filter, filter_map, length, nat_lt, slice_get, Option, None, unwrap_or, is_some, if◌then◌else◌}
 use Rattle.std.specs.List.{count_by, position, sum_by}
 use Rattle.std.specs.Ordering.{eq_by_cmp}
 use Rattle.std.specs.BTreeMap.{BTreeMap, get}
@@ -12,6 +12,7 @@ use Rattle.data_model.specs.Deltas.{Pair, is_gain, is_loss}
 use Rattle.point_sets.specs.DataSets.{DataSet}
 use Rattle.held_index.specs.declared.want.Want.{Want}
 use Rattle.held_index.specs.Holdings.{part_of}
+use Rattle.held_index.specs.Wants.{in_parts}
 use Rattle.clause_trees.specs.Frames.{has_role}
 use Rattle.data_set_trees.specs.Components.{identifiers, has_name}
 use Rattle.exists_meaning.specs.Exists.{ExistsOn, common}
@@ -38,15 +39,12 @@ left_numbers e = numbers_in e.left (identifiers (common e))
 abbrev pub right_numbers : ExistsOn → List ℕ
 right_numbers e = numbers_in e.right (identifiers (common e))
 
--- the operand of this number, held by these identifiers
-abbrev pub parted : ℕ → List ℕ → Want
-parted operand numbers = record { operand = operand; part = numbers; order = []; sums = [] }
-
+-- both operands are held by them
 abbrev pub left_want : ExistsOn → Want
-left_want e = parted 0 (left_numbers e)
+left_want e = in_parts 0 (left_numbers e)
 
 abbrev pub right_want : ExistsOn → Want
-right_want e = parted 1 (right_numbers e)
+right_want e = in_parts 1 (right_numbers e)
 
 -- ---- parts
 

@@ -1,10 +1,9 @@
 // What changes of the operands make of the result.
-ghost use Rattle.std.specs.Prelude.{◌≡◌, ◌+◌, ◌*◌, ◌≤◌, ◌++◌, List, [], Some, OnOk, length};
+ghost use Rattle.std.specs.Prelude.{◌≡◌, ◌+◌, ◌*◌, ◌≤◌, ◌++◌, List, [], OnOk, length};
 ghost use Rattle.std.specs.Option.{option_copied};
 ghost use Rattle.std.specs.FinMap as finmap;
 ghost use Rattle.vtl_values.specs.declared.value.Value.{Value as V};
-ghost use Rattle.data_model.specs.Deltas.{after};
-ghost use Rattle.point_sets.specs.DataSets.{HasKey, key_of, rest_of};
+ghost use Rattle.point_sets.specs.DataSets.{HasKey};
 ghost use Rattle.point_sets.specs.Changes.{Changes, values_of, IsChange};
 ghost use Rattle.held_index.specs.Holdings.{Holding, part_of as points_of};
 ghost use Rattle.exists_meaning.specs.Exists.{ExistsOn};
@@ -159,21 +158,10 @@ fn note_part<L: Ledger>(
     let count = left.count_in(part, steps);
     for n in 0..count {
         if let Some(point) = left.nth_in(part, n, steps) {
-            let after = point_after(own, point);
-            note_at(alloc, told, met, &point.key, Some(point), after, draft)?;
+            let key = &point.key;
+            let after = own.point_after(key, Some(point));
+            note_at(alloc, told, met, key, Some(point), after, draft)?;
         }
     }
     Ok(())
-}
-
-/// The point that comes to be where this one was, after a delta.
-fn point_after<'a>(delta: &'a Delta, point: &'a Arc<Point>) -> Option<&'a Arc<Point>>
-    ensures values { values_of (option_copied result) ≡ after (finmap.get delta.now (key_of point.now)) (Some (rest_of point.now)) }
-    ensures key { HasKey (key_of point.now) (option_copied result) }
-{
-    let changes = delta.changes();
-    match changes.binary_search_by(|change| change.key.cmp(&point.key)) {
-        Ok(place) => changes[place].new.as_ref(),
-        Err(_) => Some(point),
-    }
 }

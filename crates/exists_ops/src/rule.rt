@@ -2,7 +2,6 @@
 ghost use Rattle.std.specs.Prelude.{◌≡◌, IfOk};
 ghost use Rattle.vtl_syntax.specs.declared.words.ExistsRows.{ExistsRows as Rows};
 ghost use Rattle.data_set_trees.specs.declared.tree.DataSetOperator.TheVariants.{ExistsIn};
-ghost use Rattle.exists_ops.specs.Parts as parts;
 
 use crate::notes::{note_changes, note_parts};
 use crate::numbers::{numbers_in, viral_numbers};
@@ -45,17 +44,6 @@ impl Model for ExistsRule {
     ghost invariant = { λ r. IsRule (exists_on r.told.rows r.left r.right r.structure) r.told r.wants };
 }
 
-fn parted(alloc: Global, operand: u64, numbers: Items<u64>) -> Want
-    ensures { result ≡ parts.parted operand numbers }
-{
-    Want {
-        operand,
-        part: numbers,
-        order: Items::from_vec(Vec::new(alloc)),
-        sums: Items::from_vec(Vec::new(alloc)),
-    }
-}
-
 /// The rows that an operator keeps.
 fn rows_of(operator: &DataSetOperator) -> ExistsRows
     requires { (rows : Rows) × (operator.now ≡ ExistsIn rows) }
@@ -80,8 +68,8 @@ impl ExistsRule {
         let (left, right) = (&operands[0], &operands[1]);
         let (ours, theirs) = (left.components(), right.components());
         let mut wants = Vec::new(alloc);
-        wants.push(parted(alloc, 0, numbers_in(alloc, ours, ours, theirs)?))?;
-        wants.push(parted(alloc, 1, numbers_in(alloc, theirs, ours, theirs)?))?;
+        wants.push(Want::in_parts(alloc, 0, numbers_in(alloc, ours, ours, theirs)?))?;
+        wants.push(Want::in_parts(alloc, 1, numbers_in(alloc, theirs, ours, theirs)?))?;
         Ok(ExistsRule {
             told: Told {
                 rows: rows_of(node.operator.get()),
@@ -92,6 +80,13 @@ impl ExistsRule {
             structure: node.structure.copy()?,
             wants: Items::from_vec(wants),
         })
+    }
+
+    /// The rows that the operator keeps, which is `exists_in`.
+    pub fn rows(&self) -> ExistsRows
+        ensures { self.now.operator ≡ ExistsIn result }
+    {
+        self.told.rows
     }
 }
 

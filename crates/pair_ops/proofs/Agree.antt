@@ -17,6 +17,7 @@ use Rattle.data_model.proofs.MapLemmas.{neither, tied, tied_to_itself}
 use Rattle.point_sets.specs.Changes.{Changes}
 use Rattle.point_sets.specs.DataSets.{DataSet}
 use Rattle.structured_sets.specs.Fitting as fitting
+use Rattle.structured_sets.proofs.Lists.{position-cons}
 use Rattle.typing_rules.proofs.Sound.{left, right}
 use Rattle.clause_meaning.proofs.ByRole.{of-identifiers}
 use Rattle.data_set_trees.specs.Components.{has_name, identifiers, include, is_same}
@@ -30,7 +31,6 @@ use Rattle.pair_meaning.proofs.Names.{Apart, is_in, same-true}
 use Rattle.pair_eval.specs.Plans.{numbers_between}
 use Rattle.pair_ops.specs.Noted.{part_steps}
 use Rattle.pair_ops.specs.Reach.{NamedValue, agree, agrees, met_keys, named_values, pairs_with}
-use Rattle.pair_ops.proofs.Parts.{position-cons}
 
 -- ---- one identifier
 

@@ -23,13 +23,14 @@ use Rattle.held_index.specs.Drafts.{SetDraft}
 use Rattle.held_index.specs.Holdings.{Holding, holding_of}
 use Rattle.held_index.specs.Rules.{SetOutcome, answer_of, after_news, AreAsked, IsRightAnswer}
 use Rattle.held_index.specs.declared.stop.Stop.{Stop}
+use Rattle.held_index.specs.Wants.{in_parts, whole}
 use Rattle.held_index.specs.declared.want.Want.{Want}
 use Rattle.held_index.proofs.Rules.{IsRightAnswer-finished}
 use Rattle.pair_meaning.specs.Pairs.{PairOn, is_left_main, main, main_set, pair_meaning, partner_set}
 use Rattle.pair_meaning.specs.Typed.{IsTypedPair, pair_on}
 use Rattle.pair_eval.specs.Plans.{partner_numbers}
 use Rattle.pair_ops.specs.Noted.{noted_main, noted_partner}
-use Rattle.pair_ops.specs.Rules.{IsPair, in_parts, main_number, pair_in, partner_number, wanted_of, wants_on, whole}
+use Rattle.pair_ops.specs.Rules.{IsPair, main_number, pair_in, partner_number, wanted_of, wants_on}
 use Rattle.pair_ops.proofs.Meetings.{left_of, right_of, right-draft}
 
 -- ---- an operator on two operands

@@ -1,5 +1,5 @@
 -- What the changes of both operands come to, as the rule finds them by their numbers.
-use Rattle.std.proofs.Common.{◌≡◌, ℕ, List, [], ◌∷◌, map, length, get_or, Bool, true, false, if◌then◌else◌, Result, refl, sym, ap, subst, ◌∙◌}
+use Rattle.std.proofs.Common.{◌≡◌, ℕ, List, [], ◌∷◌, map, length, get_or, Bool, true, false, if◌then◌else◌, Result, sym, ap, subst, ◌∙◌}
 use Rattle.std.specs.Arc.{arc_value}
 use Rattle.std.specs.Option.{IfSome}
 use Rattle.std.specs.declared.sync.Arc.{Arc}
@@ -15,19 +15,18 @@ use Rattle.point_sets.specs.declared.delta.Delta.{Delta}
 use Rattle.held_index.specs.Holdings.{Holding, IsPlain}
 use Rattle.held_index.specs.Rules.{answer_of, IsRightAnswer}
 use Rattle.held_index.specs.declared.stop.Stop.{Stop}
+use Rattle.held_index.specs.Wants.{in_parts, whole}
 use Rattle.held_index.specs.declared.want.Want.{Want}
+use Rattle.held_index.proofs.WantLemmas.{whole-plain}
 use Rattle.pair_meaning.specs.Pairs.{PairOn, is_left_main}
 use Rattle.pair_eval.specs.Plans.{partner_numbers}
-use Rattle.pair_ops.specs.Rules.{in_parts, main_number, pair_in, partner_number, wanted_of, wants_on, whole}
+use Rattle.pair_ops.specs.Rules.{main_number, pair_in, partner_number, wanted_of, wants_on}
 use Rattle.pair_ops.proofs.Asked.{IsOfTwo, drafted, right_answer, wanted-pair}
 use Rattle.pair_ops.proofs.ReachLemmas.{Within, all_within}
 
-plain_whole : (n : ℕ) (w : Want) → w ≡ whole n → IsPlain w
-plain_whole n w is = subst IsPlain (sym is) (record { one_part = refl; by_key = refl })
-
 plain_other : (t : Bool) (numbers : List ℕ) (w : Want) → w ≡ get_or (if t then in_parts 0 numbers ∷ whole 1 ∷ [] else whole 0 ∷ in_parts 1 numbers ∷ []) (if t then 1 else 0) w → IsPlain w
-plain_other true numbers w is = plain_whole 1 w is
-plain_other false numbers w is = plain_whole 0 w is
+plain_other true numbers w is = subst IsPlain (sym is) (whole-plain 1)
+plain_other false numbers w is = subst IsPlain (sym is) (whole-plain 0)
 
 -- h is held of the main operand and g of the other one, and a and b are their news
 module _ (o : Operator) (two : IsOfTwo o) (plan : PairOn) (planned : plan ≡ pair_in o) (held : List Holding) (wants : map (λ (x : Holding). x.want) held ≡ wanted_of o) (news : List (Arc Delta Global))

@@ -2,7 +2,6 @@ pub mod Agree
 pub mod Asked
 pub mod Both
 pub mod Folds
-pub mod Found
 pub mod Meetings
 pub mod Parts
 pub mod ReachLemmas

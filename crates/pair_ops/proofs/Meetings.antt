@@ -1,12 +1,13 @@
 -- What two data sets have at the keys of the result, before the news and after them, and a draft that notes it.
-use Rattle.std.proofs.Common.{◌≡◌, ◌≢◌, ℕ, List, [], ◌∷◌, ◌++◌, map, length, suc, Bool, true, false, ◌||◌, if◌then◌else◌, Option, Some, None, option_map, refl, sym, ap, subst, ◌∙◌, append_assoc}
+use Rattle.std.proofs.Common.{◌≡◌, ◌≢◌, ℕ, List, [], ◌∷◌, ◌++◌, map, length, Bool, true, false, if◌then◌else◌, Option, Some, None, option_map, refl, sym, ap, subst, ◌∙◌, append_assoc}
 use Rattle.std.specs.Prelude.{flat_map, fold}
-use Rattle.std.specs.List.{AllByRecursion, AllZip}
+use Rattle.std.specs.List.{AllByRecursion}
 use Rattle.std.specs.Option.{IfSome, is_some, option_zip}
 use Rattle.std.specs.Ordering.{eq_by_cmp}
 use Rattle.std.specs.FinMap.{FinMap, entries, get, keys, len}
 use Rattle.std.proofs.lemmas.List.{append-nil}
 use Rattle.std.proofs.lemmas.List.Folds.{list_any-append}
+use Rattle.std.proofs.lemmas.Slice.Zip.{AllZip-long}
 use Rattle.vtl_values.specs.Order.{key_cmp}
 use Rattle.vtl_values.proofs.Values.{key_cmp-IsTotalOrder, key_cmp-IsAntisymmetric}
 use Rattle.vtl_values.specs.declared.structure.Component.{Component}
@@ -36,7 +37,7 @@ use Rattle.held_index.specs.declared.want.Want.{Want}
 use Rattle.pair_meaning.specs.Pairs.{PairOn, is_key, is_left_main, key_between, main, main_key, pair_at, pair_meaning, pair_working, partner, partner_key, result_key, values_there}
 use Rattle.pair_meaning.specs.Typed.{IsTypedPair}
 use Rattle.pair_meaning.proofs.Keys.{main-back, partner-same}
-use Rattle.pair_meaning.proofs.Paired.{pair-meant, pair-result}
+use Rattle.pair_meaning.proofs.Paired.{listed-map, pair-meant, pair-result}
 use Rattle.pair_eval.specs.Made.{AllValues, is_beyond, value_of}
 use Rattle.pair_eval.specs.Plans.{partner_numbers}
 use Rattle.pair_ops.specs.Noted.{ChangeValues, in_turn, met, noted_main, noted_met, noted_partner, noted_point}
@@ -82,25 +83,11 @@ nothing_met p x y = by_test (is_left_main p)
     by_test true = refl
     by_test false = none x ∙ sym (none y)
 
-listed-map : (f : List Value → List Value) (k : List Value) (ks : List (List Value)) → is_listed key_cmp ks k ≡ true → is_listed key_cmp (map f ks) (f k) ≡ true
-listed-map f k [] h = cc
-listed-map f k (j ∷ js) h = by_test (eq_by_cmp key_cmp k j) refl h (listed-map f k js)
-  where
-    by_test : (b : Bool) → eq_by_cmp key_cmp k j ≡ b → (b || is_listed key_cmp js k) ≡ true → (is_listed key_cmp js k ≡ true → is_listed key_cmp (map f js) (f k) ≡ true) → (eq_by_cmp key_cmp (f k) (f j) || is_listed key_cmp (map f js) (f k)) ≡ true
-    by_test true e i later = ap (λ b. b || is_listed key_cmp (map f js) (f k)) (ap (λ (q : List Value). eq_by_cmp key_cmp (f k) (f q)) (sym (tied key_cmp-IsTotalOrder key_cmp-IsAntisymmetric k j e)) ∙ tied_to_itself key_cmp-IsTotalOrder (f k))
-    by_test false e i later = elim (eq_by_cmp key_cmp (f k) (f j)) as (λ b. (b || is_listed key_cmp (map f js) (f k)) ≡ true) [ true ↦ refl | false ↦ later i ]
-
-AllZip-length : (xs : List Component) (ys : List Value) → AllZip FitsIdentifier xs ys → length ys ≡ length xs
-AllZip-length [] [] h = refl
-AllZip-length [] (y ∷ ys) h = absurd h
-AllZip-length (x ∷ xs) [] h = absurd h
-AllZip-length (x ∷ xs) (y ∷ ys) h = ap suc (AllZip-length xs ys h.1)
-
 -- a key of a data set has a value for each identifier
 pub long-key : (cs : List Component) (m : DataSet) (key rest : List Value) → IsSetOf cs m → get m key ≡ Some rest → length key ≡ length (identifiers cs)
 long-key cs m key rest fit there =
     let point : IsPointOf cs key rest = subst (λ (o : Option (List Value)). IfSome o (IsPointOf cs key)) there (fit key) in
-    AllZip-length (fitting.identifiers cs) key point.key_fits ∙ ap length (sym (of-identifiers cs))
+    AllZip-long FitsIdentifier (fitting.identifiers cs) key point.key_fits ∙ ap length (sym (of-identifiers cs))
 
 -- ---- at the key that a key of the main operand comes to
 

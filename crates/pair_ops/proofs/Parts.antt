@@ -1,14 +1,12 @@
 -- The points of a part, and those of an operand that a key of its partner stands for.
-use Rattle.std.proofs.Common.{◌≡◌, ℕ, suc, ◌+◌, ◌≤◌, List, [], ◌∷◌, map, length, get_or, Bool, true, false, ◌||◌, cond, Option, Some, None, option_map, refl, sym, ap, ◌∙◌, inl, inr, arith, add-one, nat_lt, not}
+use Rattle.std.proofs.Common.{◌≡◌, ℕ, ◌+◌, ◌≤◌, List, [], ◌∷◌, map, length, get_or, Bool, true, false, ◌||◌, cond, Option, Some, None, option_map, refl, sym, ap, ◌∙◌, arith, add-one}
 use Rattle.std.specs.Prelude.{filter, filter_map, find, zip}
-use Rattle.std.specs.List.{AllByRecursion, All, cons_option, list_any, position, prefix_len}
+use Rattle.std.specs.List.{AllByRecursion, All, cons_option, list_any, position}
 use Rattle.std.specs.Ordering.{eq_by_cmp, is_lt, is_eq, ordering_then}
 use Rattle.std.specs.FinMap as finmap
 use Rattle.std.specs.FinMap.{entries, entries_sorted, get, get-entries}
 use Rattle.std.specs.declared.cmp.Ordering.{Ordering}
 use Rattle.std.specs.declared.cmp.Ordering.TheVariants.{Less, Equal, Greater}
-use Rattle.std.proofs.lemmas.Bool.{cases_Bool}
-use Rattle.std.proofs.lemmas.Bool.Decides.{nat_tests}
 use Rattle.std.proofs.lemmas.List.Elements.{All-head, All-tail}
 use Rattle.vtl_values.specs.Order.{key_cmp}
 use Rattle.vtl_values.proofs.Values.{key_cmp-IsTotalOrder, key_cmp-IsAntisymmetric}
@@ -20,6 +18,7 @@ use Rattle.data_model.proofs.MapLemmas.{tied, tied_to_itself}
 use Rattle.ordered_tree.specs.Orders.{put_in, in_order}
 use Rattle.ordered_tree.proofs.Orders.{all_put_in}
 use Rattle.point_sets.specs.DataSets.{DataSet}
+use Rattle.structured_sets.proofs.Lists.{position-cons}
 use Rattle.data_set_trees.specs.Components.{identifiers, has_name}
 use Rattle.held_index.specs.declared.want.Want.{Want}
 use Rattle.held_index.specs.Holdings.{part_of}
@@ -28,29 +27,6 @@ use Rattle.pair_meaning.specs.Pairs.{key_between, value_where}
 use Rattle.pair_eval.specs.Plans.{numbers_between}
 
 -- ---- a value by the number of its component
-
-later_within : (n m : ℕ) → nat_lt (1 + n) (suc m) ≡ nat_lt n m
-later_within n m = elim (cases_Bool (nat_lt n m)) [
-  | inl yes' ↦ (let more : nat_lt (1 + n) (suc m) ≡ true = grind (arith, nat_tests, yes') in more) ∙ sym yes'
-  | inr no' ↦ (let none : nat_lt (1 + n) (suc m) ≡ false = grind (arith, nat_tests, no') in none) ∙ sym no'
-]
-
-first_within : (m : ℕ) → nat_lt 0 (suc m) ≡ true
-first_within m = grind (arith, nat_tests)
-
-by_place : (b : Bool) (n : ℕ) → cond b (Some (1 + n)) None ≡ option_map (λ i. i + 1) (cond b (Some n) None)
-by_place true n = ap Some (omega arith)
-by_place false n = refl
-
-pub position-cons : {X : Type 0} (p : X → Bool) (x : X) (xs : List X) → position p (x ∷ xs) ≡ cond (p x) (Some 0) (option_map (λ i. i + 1) (position p xs))
-position-cons p x xs = by_test (p x)
-  where
-    before : ℕ
-    before = prefix_len (λ y. not (p y)) xs
-
-    by_test : (b : Bool) → cond (nat_lt (cond (not b) (1 + before) 0) (suc (length xs))) (Some (cond (not b) (1 + before) 0)) None ≡ cond b (Some 0) (option_map (λ i. i + 1) (position p xs))
-    by_test true = ap (λ t. cond t (Some 0) None) (first_within (length xs))
-    by_test false = ap (λ t. cond t (Some (1 + before)) None) (later_within before (length xs)) ∙ by_place (nat_lt before (length xs)) before
 
 -- the value at the number of the first component that passes
 numbered : (passes : Component → Bool) (cs : List Component) (key rest : List Value) → length cs ≤ length key → option_map (λ n. component_of n (key, rest)) (position passes cs) ≡ value_where passes cs key

@@ -9,6 +9,7 @@ use Rattle.checked_trees.specs.Operators.{an_operator, Operator}
 use Rattle.point_sets.specs.Changes.{Changes}
 use Rattle.point_sets.specs.DataSets.{DataSet}
 use Rattle.held_index.specs.Holdings.{Holding, look_steps}
+use Rattle.held_index.specs.Wants.{in_parts, whole}
 use Rattle.held_index.specs.declared.want.Want.{Want}
 use Rattle.pair_meaning.specs.Pairs.{PairOn, is_left_main}
 use Rattle.pair_meaning.specs.Typed.{pair_on}
@@ -17,7 +18,7 @@ use Rattle.pair_meaning.proofs.Names.{Apart}
 use Rattle.pair_eval.specs.Plans.{numbers_between}
 use Rattle.pair_ops.specs.Noted.{walk_steps}
 use Rattle.pair_ops.specs.Reach.{NamedValue, held_of, main_points, matching_reach, met_keys, named_values, pairs_with}
-use Rattle.pair_ops.specs.Rules.{in_parts, main_number, pair_in, partner_number, wants_on, whole}
+use Rattle.pair_ops.specs.Rules.{main_number, pair_in, partner_number, wants_on}
 use Rattle.pair_ops.proofs.Agree.{walk-within}
 use Rattle.pair_ops.proofs.Asked.{IsOfTwo}
 

@@ -4,6 +4,7 @@ use Rattle.clause_trees.specs.declared.clause.CheckedMeasure.{CheckedMeasure}
 use Rattle.data_set_trees.specs.declared.tree.DataSetOperator.{DataSetOperator}
 use Rattle.data_set_trees.specs.declared.tree.DataSetOperator.TheVariants.{Pair}
 use Rattle.checked_trees.specs.Operators.{Operator, IsTyped}
+use Rattle.held_index.specs.Wants.{in_parts, whole}
 use Rattle.held_index.specs.declared.want.Want.{Want}
 use Rattle.pair_eval.specs.Plans.{pair_of, partner_numbers}
 use Rattle.pair_meaning.specs.Pairs.{PairOn, is_left_main}
@@ -22,14 +23,6 @@ main_number p = if is_left_main p then 0 else 1
 
 abbrev pub partner_number : PairOn → ℕ
 partner_number p = if is_left_main p then 1 else 0
-
--- the operand of this number in parts by these components, each in the order of the keys
-abbrev pub in_parts : ℕ → List ℕ → Want
-in_parts n components = record { operand = n; part = components; order = []; sums = [] }
-
--- or whole
-abbrev pub whole : ℕ → Want
-whole n = in_parts n []
 
 -- the main operand is wanted in parts, by the identifiers that the other one has, and the other one whole
 abbrev pub wants_on : PairOn → List Want

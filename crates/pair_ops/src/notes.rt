@@ -2,7 +2,7 @@
 ghost use Rattle.std.specs.Prelude.{◌≡◌, ◌+◌, ◌*◌, ◌≤◌, IfOk, OnOk, fold, if◌then◌else◌};
 ghost use Rattle.std.specs.Option.{option_copied};
 ghost use Rattle.std.specs.FinMap as finmap;
-ghost use Rattle.data_model.specs.Deltas.{after, Differs};
+ghost use Rattle.data_model.specs.Deltas.{Differs};
 ghost use Rattle.data_model.specs.Drafts as drafts;
 ghost use Rattle.point_sets.specs.DataSets.{entry_of, key_of, HasKey};
 ghost use Rattle.point_sets.specs.Changes.{change_entry, values_eq, values_of, IsChange};
@@ -68,7 +68,7 @@ fn note_main_change<L: Ledger>(
 {
     let at = place_at(alloc, plan.partner_key(alloc, &change.key)?);
     let before = partner.get(&at, steps);
-    let after = point_after(partner_news, &at.key, before);
+    let after = partner_news.point_after(&at.key, before);
     let partner = Turn {
         old: before,
         new: after,
@@ -141,7 +141,7 @@ fn note_point(
     requires { IsChange change.now }
     ensures { OnOk result (draft.new ≡ noted_point plan.now main_news.now (change_entry change.now) draft.old (entry_of point.now)) }
 {
-    let after = point_after(main_news, &point.key, Some(point));
+    let after = main_news.point_after(&point.key, Some(point));
     let main = Turn {
         old: Some(point),
         new: after,
@@ -157,22 +157,6 @@ fn turn_of(change: &Change) -> Turn<'_>
     Turn {
         old: change.old.as_ref(),
         new: change.new.as_ref(),
-    }
-}
-
-/// The point that a key has after a delta, where the one that it had is given.
-fn point_after<'a>(
-    delta: &'a Delta,
-    key: &Key,
-    before: Option<&'a Arc<Point>>,
-) -> Option<&'a Arc<Point>>
-    ensures value { values_of (option_copied result) ≡ after (finmap.get delta.now key.now) (values_of (option_copied before.entry)) }
-    ensures key { HasKey key.now (option_copied before.entry) → HasKey key.now (option_copied result) }
-{
-    let changes = delta.changes();
-    match changes.binary_search_by(|change| change.key.cmp(key)) {
-        Ok(place) => changes[place].new.as_ref(),
-        Err(_) => before,
     }
 }
 

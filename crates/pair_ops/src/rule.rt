@@ -14,6 +14,7 @@ use std::marker::Model;
 use std::sync::Arc;
 use std::sync::ledger::Ledger;
 use std::thread::Threads;
+use structured_sets::copy_all;
 use vtl_values::Structure;
 
 /// The rule of an operator on two data sets.
@@ -39,28 +40,6 @@ impl Model for PairRule {
     ghost invariant = { λ r. IsRule (an_operator r.operator r.operands r.structure) r.plan r.wants };
 }
 
-fn copy_all(alloc: Global, structures: &[Structure]) -> Result<Items<Structure>, AllocError>
-    ensures { IfOk result (λ copies. copies ≡ structures.now) }
-{
-    let mut copies = Vec::new(alloc);
-    for structure in structures {
-        copies.push(structure.copy()?)?;
-    }
-    Ok(Items::from_vec(copies))
-}
-
-/// The operand of this number in parts by these components.
-fn in_parts(alloc: Global, operand: u64, components: &[u64]) -> Result<Want, AllocError>
-    ensures { IfOk result (λ want. want ≡ rules.in_parts operand components.now) }
-{
-    Ok(Want {
-        operand,
-        part: Items::from_slice(alloc, components)?,
-        order: Items::from_vec(Vec::new(alloc)),
-        sums: Items::from_vec(Vec::new(alloc)),
-    })
-}
-
 /// What a plan wants held, in the order of the operands.
 fn wants_of(alloc: Global, plan: &PairPlan) -> Result<Items<Want>, AllocError>
     ensures { IfOk result (λ wants. wants ≡ rules.wants_on plan.now) }
@@ -70,8 +49,8 @@ fn wants_of(alloc: Global, plan: &PairPlan) -> Result<Items<Want>, AllocError>
         Side::Right => (&[], plan.partner_numbers()),
     };
     let mut wants = Vec::new(alloc);
-    wants.push(in_parts(alloc, 0, left)?)?;
-    wants.push(in_parts(alloc, 1, right)?)?;
+    wants.push(Want::in_parts(alloc, 0, Items::from_slice(alloc, left)?))?;
+    wants.push(Want::in_parts(alloc, 1, Items::from_slice(alloc, right)?))?;
     Ok(Items::from_vec(wants))
 }
 

@@ -1,11 +1,8 @@
 -- The operands for which the rule is asked are those that are held.
-use Rattle.std.proofs.Common.{◌≡◌, ℕ, ◌+◌, ◌*◌, ◌≤◌, List, [], ◌∷◌, ◌++◌, map, length, Option, Some, Result, refl, sym, ap, subst, ◌∙◌, append_assoc, false, arith}
-use Rattle.std.specs.Prelude.{slice_get, unwrap_or}
-use Rattle.std.specs.FinMap.{empty}
+use Rattle.std.proofs.Common.{◌≡◌, ℕ, ◌+◌, ◌*◌, ◌≤◌, List, [], length, Result, sym, ap, subst, ◌∙◌, false, arith}
 use Rattle.std.specs.List.{All, AllZip}
 use Rattle.std.specs.Option.{IfSome}
-use Rattle.std.proofs.lemmas.List.{length_push}
-use Rattle.std.proofs.lemmas.List.Elements.{All-nil, All-cons}
+use Rattle.std.proofs.lemmas.Slice.Zip.{AllZip-long}
 use Rattle.vtl_values.specs.declared.structure.Component.{Component}
 use Rattle.vtl_values.specs.Order.{key_cmp}
 use Rattle.data_model.specs.Answers.{IsRight}
@@ -15,10 +12,12 @@ use Rattle.point_sets.specs.Changes.{Changes}
 use Rattle.point_sets.specs.DataSets.{DataSet}
 use Rattle.structured_sets.specs.Fitting.{IsSetOf, IsBoundedSetOf}
 use Rattle.held_index.specs.Drafts.{SetDraft}
-use Rattle.held_index.specs.Holdings.{Holding, IsPlain, holding_of, operand}
+use Rattle.held_index.specs.Holdings.{AllPlain, Holding, contents}
 use Rattle.held_index.specs.Rules.{answer_of, after_news, AreAsked, IsRightAnswer}
 use Rattle.held_index.specs.declared.stop.Stop.{Stop}
+use Rattle.held_index.specs.Wants.{all_whole}
 use Rattle.held_index.proofs.Rules.{IsRightAnswer-finished}
+use Rattle.held_index.proofs.WantLemmas.{all_whole-plain, contents-all_whole}
 use Rattle.clause_meaning.proofs.Picked.{AllZip-weaker}
 use Rattle.data_set_trees.specs.declared.tree.DataSetOperator.{DataSetOperator}
 use Rattle.data_set_trees.specs.declared.tree.DataSetOperator.TheVariants.{Set}
@@ -26,54 +25,22 @@ use Rattle.data_set_trees.specs.declared.tree.SetOperation.{SetOperation}
 use Rattle.checked_trees.specs.Operators.{an_operator, Operator}
 use Rattle.set_meaning.specs.Sets.{set_on}
 use Rattle.set_meaning.specs.Typed.{IsTypedSet}
-use Rattle.set_ops.specs.Noted.{AllPlain, contents, read_value, IsNoted, all_keys_read}
+use Rattle.set_ops.specs.Noted.{read_value, IsNoted, all_keys_read}
 use Rattle.set_ops.specs.Readings.{readings_of}
-use Rattle.set_ops.specs.Rules.{IsTypedSetOperator, set_meaning_of, whole, all_whole}
+use Rattle.set_ops.specs.Rules.{IsTypedSetOperator, set_meaning_of}
 use Rattle.set_ops.proofs.Right.{right-answer}
-
-pub length-whole : (n : ℕ) (ss : List (List Component)) → length (all_whole n ss) ≡ length ss
-length-whole n [] = refl
-length-whole n (s ∷ ss) = let rest = length-whole (n + 1) ss in omega (arith, rest)
-
--- what is wanted whole is held in the order of its keys
-all-plain : (xs : List DataSet) (n : ℕ) (ss : List (List Component)) → AllPlain (map (holding_of xs) (all_whole n ss))
-all-plain xs n [] = All-nil (λ h. IsPlain h.want)
-all-plain xs n (s ∷ ss) = All-cons (λ h. IsPlain h.want) (holding_of xs (whole n)) (map (holding_of xs) (all_whole (n + 1) ss)) (record { one_part = refl; by_key = refl }) (all-plain xs (n + 1) ss)
-
-get-after : (before : List DataSet) (x : DataSet) (xs : List DataSet) → slice_get (before ++ x ∷ xs) (length before) ≡ Some x
-get-after [] x xs = refl
-get-after (b ∷ bs) x xs = get-after bs x xs
-
--- what is held of all operands is the operands
-contents-from : (before xs : List DataSet) (ss : List (List Component)) → length xs ≡ length ss → contents (map (holding_of (before ++ xs)) (all_whole (length before) ss)) ≡ xs
-contents-from before [] [] long = refl
-contents-from before [] (s ∷ ss) long = absurd (omega (arith, long))
-contents-from before (x ∷ xs) [] long = absurd (omega (arith, long))
-contents-from before (x ∷ xs) (s ∷ ss) long =
-    let all : List DataSet = before ++ x ∷ xs in
-    let here : operand (length before) all ≡ x = ap (λ (o : Option DataSet). unwrap_or o empty) (get-after before x xs) in
-    let next : List DataSet = before ++ x ∷ [] in
-    let rest : contents (map (holding_of (next ++ xs)) (all_whole (length next) ss)) ≡ xs = contents-from next xs ss (omega (arith, long)) in
-    let same : contents (map (holding_of all) (all_whole (length before + 1) ss)) ≡ contents (map (holding_of (next ++ xs)) (all_whole (length next) ss)) = (λ i. contents (map (holding_of (sym (append_assoc before (x ∷ []) xs) i)) (all_whole (sym (length_push before x) i) ss))) in
-    λ i. here i ∷ (same ∙ rest) i
-
-AllZip-length : {A B : Type 0} (F : A → B → Type 0) (xs : List A) (ys : List B) → AllZip F xs ys → length ys ≡ length xs
-AllZip-length F [] [] h = refl
-AllZip-length F [] (y ∷ ys) h = absurd h
-AllZip-length F (x ∷ xs) [] h = absurd h
-AllZip-length F (x ∷ xs) (y ∷ ys) h = let rest = AllZip-length F xs ys h.1 in omega (arith, rest)
 
 fit-all : (ss : List (List Component)) (xs : List DataSet) → AllZip IsBoundedSetOf ss xs → AllZip IsSetOf ss xs
 fit-all ss xs h = AllZip-weaker IsBoundedSetOf IsSetOf (λ s x bounded. bounded.fits) ss xs h
 
 module _ (operation : SetOperation) (operands : List (List Component)) (structure : List Component) (typed : IsTypedSet (set_on operation operands structure)) (held : List Holding) (news : List Changes) (before : ℕ) (n : SetDraft) where
   asked-right : All Differs news → (AllPlain held → IsNoted operation (readings_of operands structure) held news (all_keys_read (readings_of operands structure) news) n) → (xs : List DataSet) (x : DataSet)
-      → AreAsked (AllZip IsBoundedSetOf operands) (set_meaning_of (an_operator (Set operation) operands structure)) (all_whole 0 operands) held news before xs x → IsRight (set_meaning_of (an_operator (Set operation) operands structure) (after_news news xs)) x (finished before n)
+      → AreAsked (AllZip IsBoundedSetOf operands) (set_meaning_of (an_operator (Set operation) operands structure)) (all_whole (length operands)) held news before xs x → IsRight (set_meaning_of (an_operator (Set operation) operands structure) (after_news news xs)) x (finished before n)
   asked-right differ noted xs x asked =
       let rs = readings_of operands structure in
       let ks = all_keys_read rs news in
-      let plain : AllPlain held = subst AllPlain asked.held_is (all-plain xs 0 operands) in
-      let same : contents held ≡ xs = ap contents (sym asked.held_is) ∙ contents-from [] xs operands (AllZip-length IsBoundedSetOf operands xs asked.admitted) in
+      let plain : AllPlain held = subst AllPlain asked.held_is (all_whole-plain xs (length operands)) in
+      let same : contents held ≡ xs = ap contents (sym asked.held_is) ∙ contents-all_whole xs (length operands) (AllZip-long IsBoundedSetOf operands xs asked.admitted) in
       right-answer (set_on operation operands structure) typed news xs x before n differ asked.begins (fit-all operands xs asked.admitted) (fit-all operands (after_news news xs) asked.admitted_after)
       (subst (λ (ys : List DataSet). IsDraft {R = key_cmp} (λ key. false) [] (read_value operation rs ys) (read_value operation rs (after_news news ys)) ks n) same (noted plain))
       asked.result_is asked.count
@@ -84,12 +51,12 @@ same-operation p q e = cc
 -- the draft in which the keys of all changes are noted ends in the right answer
 pub right-for-all : (o : Operator) → IsTypedSetOperator o → (operation : SetOperation) → o.operator ≡ Set operation → (held : List Holding) (news : List Changes) (before : ℕ) (n : SetDraft) (answer : Result Changes Stop) → IfSome (answer_of answer) (λ a. a ≡ finished before n)
     → All Differs news → (AllPlain held → IsNoted operation (readings_of o.operands o.structure) held news (all_keys_read (readings_of o.operands o.structure) news) n)
-    → IsRightAnswer (AllZip IsBoundedSetOf o.operands) (set_meaning_of o) (all_whole 0 o.operands) held news before answer
+    → IsRightAnswer (AllZip IsBoundedSetOf o.operands) (set_meaning_of o) (all_whole (length o.operands)) held news before answer
 right-for-all o typed operation is held news before n answer ends differ noted =
     let one : typed.set.0 ≡ operation = same-operation typed.set.0 operation (sym typed.set.1 ∙ is) in
     let own : IsTypedSet (set_on operation o.operands o.structure) = subst (λ (p : SetOperation). IsTypedSet (set_on p o.operands o.structure)) one typed.typed in
-    subst (λ (operator : DataSetOperator). IsRightAnswer (AllZip IsBoundedSetOf o.operands) (set_meaning_of (an_operator operator o.operands o.structure)) (all_whole 0 o.operands) held news before answer) (sym is)
-    (IsRightAnswer-finished (AllZip IsBoundedSetOf o.operands) (set_meaning_of (an_operator (Set operation) o.operands o.structure)) (all_whole 0 o.operands) held news before answer n ends (asked-right operation o.operands o.structure own held news before n differ noted))
+    subst (λ (operator : DataSetOperator). IsRightAnswer (AllZip IsBoundedSetOf o.operands) (set_meaning_of (an_operator operator o.operands o.structure)) (all_whole (length o.operands)) held news before answer) (sym is)
+    (IsRightAnswer-finished (AllZip IsBoundedSetOf o.operands) (set_meaning_of (an_operator (Set operation) o.operands o.structure)) (all_whole (length o.operands)) held news before answer n ends (asked-right operation o.operands o.structure own held news before n differ noted))
 
 -- ---- steps
 

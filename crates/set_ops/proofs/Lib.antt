@@ -2,7 +2,6 @@ pub mod Places
 pub mod Parts
 pub mod Taken
 pub mod Numbered
-pub mod Found
 pub mod Right
 pub mod Looked
 pub mod Asked

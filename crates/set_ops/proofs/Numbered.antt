@@ -1,14 +1,14 @@
 -- Values by their numbers, in place of names.
-use Rattle.std.proofs.Common.{◌≡◌, ℕ, suc, ◌+◌, List, [], ◌∷◌, length, Bool, true, false, cond, not, Option, Some, None, option_map, nat_lt, refl, sym, ap, ◌∙◌, arith}
+use Rattle.std.proofs.Common.{◌≡◌, ℕ, ◌+◌, List, [], ◌∷◌, Bool, true, false, cond, Option, Some, None, option_map, refl, sym, ap, ◌∙◌, add-one}
 use Rattle.std.specs.Prelude.{find, filter_map, slice_get, zip, map, option_and_then}
-use Rattle.std.specs.List.{cons_option, position, position_or_len}
+use Rattle.std.specs.List.{cons_option, position}
 use Rattle.std.specs.FinMap.{get}
-use Rattle.std.proofs.lemmas.Bool.Decides.{nat_tests}
 use Rattle.vtl_values.specs.declared.structure.Component.{Component}
 use Rattle.vtl_values.specs.declared.value.Value.{Value}
 use Rattle.point_sets.specs.DataSets.{DataSet}
 use Rattle.structured_sets.specs.Fitting as fitting
 use Rattle.structured_sets.specs.Fitting.{others}
+use Rattle.structured_sets.proofs.Lists.{position-cons}
 use Rattle.clause_meaning.specs.Clauses.{values_at}
 use Rattle.clause_meaning.proofs.ByRole.{of-identifiers}
 use Rattle.data_set_trees.specs.Components.{has_name, identifiers}
@@ -16,24 +16,6 @@ use Rattle.pair_meaning.specs.Pairs.{value_where, key_between}
 use Rattle.set_meaning.specs.Sets.{rest_between, read_at}
 use Rattle.set_ops.specs.Orders.{numbers_between}
 use Rattle.set_ops.specs.Readings.{readings_of, read_points}
-
--- the first that passes is the first one, or comes one later than among the others
-position-cons : {A : Type 0} (p : A → Bool) (x : A) (xs : List A) → position p (x ∷ xs) ≡ cond (p x) (Some 0) (option_map suc (position p xs))
-position-cons p x xs = by_test (p x)
-  where
-    next : (b : Bool) (n : ℕ) → cond b (Some (1 + n)) None ≡ option_map suc (cond b (Some n) None)
-    next true n = ap Some (omega arith)
-    next false n = refl
-
-    later : (n m : ℕ) → nat_lt (1 + n) (suc m) ≡ nat_lt n m
-    later n m = grind (arith, nat_tests)
-
-    first : (m : ℕ) → nat_lt 0 (suc m) ≡ true
-    first m = grind (arith, nat_tests)
-
-    by_test : (b : Bool) → cond (nat_lt (cond (not b) (1 + position_or_len p xs) 0) (suc (length xs))) (Some (cond (not b) (1 + position_or_len p xs) 0)) None ≡ cond b (Some 0) (option_map suc (position p xs))
-    by_test true = ap (λ b. cond b (Some 0) None) (first (length xs))
-    by_test false = ap (λ b. cond b (Some (1 + position_or_len p xs)) None) (later (position_or_len p xs) (length xs)) ∙ next (nat_lt (position_or_len p xs) (length xs)) (position_or_len p xs)
 
 abbrev value_in : List Value → Option ℕ → Option Value
 value_in vs place = option_and_then (slice_get vs) place
@@ -48,11 +30,11 @@ value-placed passes [] vs = refl
 value-placed passes (c ∷ cs) [] = none-in (position passes (c ∷ cs))
 value-placed passes (c ∷ cs) (v ∷ vs) = by_test (passes c) (value-placed passes cs vs) ∙ sym (ap (value_in (v ∷ vs)) (position-cons passes c cs))
   where
-    among_others : (place : Option ℕ) → value_in vs place ≡ value_in (v ∷ vs) (option_map suc place)
+    among_others : (place : Option ℕ) → value_in vs place ≡ value_in (v ∷ vs) (option_map (λ i. i + 1) place)
     among_others None = refl
-    among_others (Some number) = refl
+    among_others (Some number) = rw add-one refl
 
-    by_test : (b : Bool) → value_where passes cs vs ≡ value_in vs (position passes cs) → option_map (λ (q : Component × Value). q.1) (cond b (Some (c, v)) (find (λ (q : Component × Value). passes q.0) (zip cs vs))) ≡ value_in (v ∷ vs) (cond b (Some 0) (option_map suc (position passes cs)))
+    by_test : (b : Bool) → value_where passes cs vs ≡ value_in vs (position passes cs) → option_map (λ (q : Component × Value). q.1) (cond b (Some (c, v)) (find (λ (q : Component × Value). passes q.0) (zip cs vs))) ≡ value_in (v ∷ vs) (cond b (Some 0) (option_map (λ i. i + 1) (position passes cs)))
     by_test true is = refl
     by_test false is = is ∙ among_others (position passes cs)
 

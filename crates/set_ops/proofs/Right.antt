@@ -1,5 +1,5 @@
 -- The delta of a set operator's result, from the changes of its operands.
-use Rattle.std.proofs.Common.{◌≡◌, ◌≢◌, ℕ, List, [], ◌∷◌, map, zip, length, Bool, true, false, ◌||◌, cond, if◌then◌else◌, Option, Some, None, option_map, refl, sym, ap, subst, ◌∙◌, inl, inr, arith}
+use Rattle.std.proofs.Common.{◌≡◌, ◌≢◌, ℕ, List, [], ◌∷◌, map, zip, length, Bool, true, false, ◌||◌, cond, if◌then◌else◌, Option, Some, None, option_map, refl, sym, ap, subst, ◌∙◌, inl, inr}
 use Rattle.std.specs.Option.{IfSome, is_some}
 use Rattle.std.specs.List.{All, AllZip}
 use Rattle.std.specs.Ordering.{eq_by_cmp}
@@ -7,6 +7,7 @@ use Rattle.std.specs.FinMap.{get, keys, len}
 use Rattle.std.proofs.lemmas.Bool.{cases_Bool}
 use Rattle.std.proofs.lemmas.List.Elements.{All-head, All-tail}
 use Rattle.std.proofs.lemmas.List.Folds.{list_any-append}
+use Rattle.std.proofs.lemmas.Slice.Zip.{AllZip-long}
 use Rattle.vtl_values.specs.Order.{key_cmp}
 use Rattle.vtl_values.specs.declared.structure.Component.{Component}
 use Rattle.vtl_values.specs.declared.value.Value.{Value}
@@ -29,9 +30,10 @@ use Rattle.clause_meaning.specs.Clauses.{values_at}
 use Rattle.clause_meaning.proofs.ByRole.{of-identifiers}
 use Rattle.data_set_trees.specs.Components.{identifiers}
 use Rattle.pair_meaning.specs.Pairs.{key_between}
+use Rattle.pair_meaning.proofs.Paired.{listed-map}
 use Rattle.set_meaning.specs.Sets.{SetOn, read_at, rest_between, is_key_between, point_at, chosen, set_keys, set_working, set_meaning}
 use Rattle.set_meaning.specs.Typed.{IsTypedSet}
-use Rattle.set_meaning.proofs.Covered.{listed-map, set-covered}
+use Rattle.set_meaning.proofs.Covered.{set-covered}
 use Rattle.set_meaning.proofs.Read.{IsRead, key-long, all-read}
 use Rattle.set_meaning.proofs.Words.{points-same}
 use Rattle.set_ops.specs.Noted.{read_value, keys_read, all_keys_read}
@@ -56,12 +58,6 @@ draft-along old old' new new' ks n same h = record { least = h.least; changes = 
 
 -- ---- keys
 
-AllZip-length : {A B : Type 0} (F : A → B → Type 0) (xs : List A) (ys : List B) → AllZip F xs ys → length ys ≡ length xs
-AllZip-length F [] [] h = refl
-AllZip-length F [] (y ∷ ys) h = absurd h
-AllZip-length F (x ∷ xs) [] h = absurd h
-AllZip-length F (x ∷ xs) (y ∷ ys) h = let rest = AllZip-length F xs ys h.1 in omega (arith, rest)
-
 -- a key that is listed is made of a listed one
 made-by : (f : List Value → List Value) (ks : List (List Value)) (key : List Value) → is_listed key_cmp (map f ks) key ≡ true → (k : List Value) × (is_listed key_cmp ks k ≡ true) × (key ≡ f k)
 made-by f [] key h = cc
@@ -78,7 +74,7 @@ long-key : (from : List Component) (a : DataSet) (k : List Value) (p : Option (L
 long-key from a k None fit there h = cc
 long-key from a k (Some rest) fit there h =
     let point : IsPointOf from k rest = subst (λ (o : Option (List Value)). IfSome o (IsPointOf from k)) there (fit k) in
-    AllZip-length FitsIdentifier (fitting.identifiers from) k point.key_fits ∙ ap (λ (cs : List Component). length cs) (sym (of-identifiers from))
+    AllZip-long FitsIdentifier (fitting.identifiers from) k point.key_fits ∙ ap (λ (cs : List Component). length cs) (sym (of-identifiers from))
 
 -- a key that changes has a value for each identifier
 changed-long : (from : List Component) (d : Changes) (a : DataSet) → BeginsAt d a → Differs d → IsSetOf from a → IsSetOf from (apply d a) → (k : List Value) → is_listed key_cmp (keys d) k ≡ true → length k ≡ length (identifiers from)

@@ -1,5 +1,5 @@
 -- What the rule of a set operator notes.
-use Rattle.std.specs.Prelude.{List, [], All, map, zip, flat_map, false, Option}
+use Rattle.std.specs.Prelude.{List, [], map, zip, flat_map, false, Option}
 use Rattle.std.specs.FinMap.{keys}
 use Rattle.vtl_values.specs.declared.value.Value.{Value}
 use Rattle.vtl_values.specs.Order.{key_cmp}
@@ -7,21 +7,13 @@ use Rattle.data_model.specs.Drafts.{note_value, IsDraft}
 use Rattle.point_sets.specs.DataSets.{DataSet}
 use Rattle.point_sets.specs.Changes.{Changes, values_eq}
 use Rattle.held_index.specs.Drafts.{SetDraft}
-use Rattle.held_index.specs.Holdings.{Holding, IsPlain}
+use Rattle.held_index.specs.Holdings.{Holding, contents}
 use Rattle.held_index.specs.Rules.{after_news}
 use Rattle.clause_meaning.specs.Clauses.{values_at}
 use Rattle.data_set_trees.specs.declared.tree.SetOperation.{SetOperation}
 use Rattle.set_meaning.specs.Sets.{chosen}
 use Rattle.set_ops.specs.Readings.{read_points}
 use Rattle.set_ops.specs.declared.reading.Reading.{Reading}
-
--- the data sets that are held
-abbrev pub contents : List Holding → List DataSet
-contents held = map (λ h. h.content) held
-
--- all of them are held whole, in the order of their keys
-abbrev pub AllPlain : List Holding → Type 0
-AllPlain held = All (λ h. IsPlain h.want) held
 
 -- what the result has at a key, as the operands are read
 abbrev pub read_value : SetOperation → List Reading → List DataSet → List Value → Option (List Value)

@@ -1,7 +1,6 @@
 -- The rules of set operators.
-use Rattle.std.specs.Prelude.{◌≡◌, ◌+◌, ℕ, List, [], ◌∷◌}
+use Rattle.std.specs.Prelude.{◌≡◌, List, length}
 use Rattle.std.specs.FinMap.{empty}
-use Rattle.vtl_values.specs.declared.structure.Component.{Component}
 use Rattle.data_model.specs.Outcomes.{made}
 use Rattle.point_sets.specs.DataSets.{DataSet}
 use Rattle.data_set_trees.specs.declared.tree.DataSetOperator.{DataSetOperator}
@@ -9,6 +8,7 @@ use Rattle.data_set_trees.specs.declared.tree.DataSetOperator.TheVariants.{Set}
 use Rattle.data_set_trees.specs.declared.tree.SetOperation.{SetOperation}
 use Rattle.checked_trees.specs.Operators.{Operator}
 use Rattle.held_index.specs.Rules.{SetOutcome}
+use Rattle.held_index.specs.Wants.{all_whole}
 use Rattle.held_index.specs.declared.want.Want.{Want}
 use Rattle.set_meaning.specs.Sets.{set_on, set_meaning}
 use Rattle.set_meaning.specs.Typed.{IsTypedSet}
@@ -32,17 +32,8 @@ pub record IsTypedSetOperator (o : Operator) : Type 0 where
   pub set : IsSet o.operator
   pub typed : IsTypedSet (set_on set.0 o.operands o.structure)
 
--- the operand of this number, held whole in the order of its keys
-abbrev pub whole : ℕ → Want
-whole n = record { operand = n; part = []; order = []; sums = [] }
-
--- all operands are wanted whole, of which the first has this number
-abbrev pub all_whole : ℕ → List (List Component) → List Want
-all_whole n [] = []
-all_whole n (s ∷ ss) = whole n ∷ all_whole (n + 1) ss
-
 -- the operator is a set operator and well typed, and this is how its operands are read and what is wanted of them
 pub record IsRule (o : Operator) (readings : List Reading) (wants : List Want) : Type 0 where
   pub typed : IsTypedSetOperator o
   pub read : readings ≡ readings_of o.operands o.structure
-  pub wanted : wants ≡ all_whole 0 o.operands
+  pub wanted : wants ≡ all_whole (length o.operands)

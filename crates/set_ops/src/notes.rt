@@ -3,15 +3,15 @@ ghost use Rattle.std.specs.Prelude.{◌≡◌, ◌+◌, ◌*◌, ◌≤◌, ◌+
 ghost use Rattle.std.specs.Arc.{arc_value};
 ghost use Rattle.std.specs.Option.{option_copied};
 ghost use Rattle.std.specs.FinMap as finmap;
-ghost use Rattle.data_model.specs.Deltas.{apply, after, Differs};
+ghost use Rattle.data_model.specs.Deltas.{apply, Differs};
 ghost use Rattle.point_sets.specs.Changes.{values_of};
-ghost use Rattle.held_index.specs.Holdings.{IsPlain};
+ghost use Rattle.held_index.specs.Holdings.{AllPlain, IsPlain, contents};
 ghost use Rattle.held_index.specs.Reach.{changes_in};
 ghost use Rattle.held_index.specs.Rules.{after_news};
 ghost use Rattle.clause_meaning.specs.Clauses.{values_at};
 ghost use Rattle.set_ops.specs.Readings.{own_points};
 ghost use Rattle.set_ops.specs.Noted as meant;
-ghost use Rattle.set_ops.specs.Noted.{AllPlain, IsNoted, contents, keys_read, all_keys_read};
+ghost use Rattle.set_ops.specs.Noted.{IsNoted, keys_read, all_keys_read};
 
 use crate::chosen::chosen;
 use crate::reading::Reading;
@@ -23,21 +23,6 @@ use sqlite_items::Items;
 use std::alloc::{AllocError, Global};
 use std::sync::Arc;
 use std::sync::ledger::Ledger;
-
-/// The point that a key has after a delta, where the one that it had is given.
-fn point_after<'a>(
-    delta: &'a Delta,
-    key: &Key,
-    before: Option<&'a Arc<Point>>,
-) -> Option<&'a Arc<Point>>
-    ensures { values_of (option_copied result) ≡ after (finmap.get delta.now key.now) (values_of (option_copied before.entry)) }
-{
-    let changes = delta.changes();
-    match changes.binary_search_by(|change| change.key.cmp(key)) {
-        Ok(place) => changes[place].new.as_ref(),
-        Err(_) => before,
-    }
-}
 
 /// The point that may be there, shared.
 fn shared(point: Option<&Arc<Point>>) -> Result<Option<Arc<Point>>, AllocError>
@@ -75,7 +60,7 @@ fn look<L: Ledger>(
         rest: Items::new(alloc),
     };
     let was = held.get(&at, steps);
-    let comes = point_after(news, &at.key, was);
+    let comes = news.point_after(&at.key, was);
     let before = shared(was)?;
     let after = shared(comes)?;
     Ok(Seen { before, after })

@@ -3,14 +3,13 @@ ghost use Rattle.std.specs.Prelude.{◌≡◌, IfOk};
 ghost use Rattle.data_set_trees.specs.declared.tree.DataSetOperator.TheVariants.{Set};
 ghost use Rattle.checked_trees.specs.Operators.{an_operator};
 ghost use Rattle.set_ops.specs.Readings.{readings_of};
-ghost use Rattle.set_ops.specs.Rules as rules;
 ghost use Rattle.set_ops.specs.Rules.{IsSet, IsTypedSetOperator};
 
 use crate::notes::noted;
 use crate::reading::Reading;
 use data_model::steps::Steps;
 use data_set_trees::{DataSetNode, DataSetOperator, SetOperation, SharedOperator};
-use held_index::{DeltaRule, Held, Stop, Want};
+use held_index::{DeltaRule, Held, Stop, Want, all_whole};
 use point_sets::Delta;
 use sqlite_items::Items;
 use std::alloc::{AllocError, Global};
@@ -18,6 +17,7 @@ use std::marker::Model;
 use std::sync::Arc;
 use std::sync::ledger::Ledger;
 use std::thread::Threads;
+use structured_sets::copy_all;
 use vtl_values::Structure;
 
 /// The rule of a set operator. It keeps how each operand is read.
@@ -41,38 +41,6 @@ impl Model for SetRule {
     ghost view = { λ r. an_operator r.operator r.operands r.structure };
 
     ghost invariant = { λ r. IsRule (an_operator r.operator r.operands r.structure) r.readings r.wants };
-}
-
-fn copy_all(alloc: Global, structures: &[Structure]) -> Result<Items<Structure>, AllocError>
-    ensures { IfOk result (λ copies. copies ≡ structures.now) }
-{
-    let mut copies = Vec::new(alloc);
-    for structure in structures {
-        copies.push(structure.copy()?)?;
-    }
-    Ok(Items::from_vec(copies))
-}
-
-fn whole(alloc: Global, operand: u64) -> Want
-    ensures { result ≡ rules.whole operand }
-{
-    Want {
-        operand,
-        part: Items::from_vec(Vec::new(alloc)),
-        order: Items::from_vec(Vec::new(alloc)),
-        sums: Items::from_vec(Vec::new(alloc)),
-    }
-}
-
-/// All operands, whole.
-fn all_whole(alloc: Global, operands: &[Structure]) -> Result<Items<Want>, AllocError>
-    ensures { IfOk result (λ wants. wants ≡ rules.all_whole 0 operands.now) }
-{
-    let mut wants = Vec::new(alloc);
-    for (i, _operand) in operands.iter().enumerate() {
-        wants.push(whole(alloc, i as u64))?;
-    }
-    Ok(Items::from_vec(wants))
 }
 
 /// How each operand is read.
@@ -113,12 +81,12 @@ impl SetRule {
             operands: copy_all(alloc, operands)?,
             structure: node.structure.copy()?,
             readings: readings_of(alloc, operands, &node.structure)?,
-            wants: all_whole(alloc, operands)?,
+            wants: all_whole(alloc, operands.len())?,
         })
     }
 
     /// The operation of the operator, which is a set operator.
-    fn operation(&self) -> SetOperation
+    pub fn operation(&self) -> SetOperation
         ensures { self.now.operator ≡ Set result }
     {
         operation_of(self.operator.get())
@@ -137,8 +105,9 @@ impl DeltaRule for SetRule {
     ghost use Rattle.std.specs.Prelude.{length};
     ghost use Rattle.std.specs.List.{AllZip};
     ghost use Rattle.structured_sets.specs.Fitting.{IsBoundedSetOf};
+    ghost use Rattle.held_index.specs.Wants.{all_whole};
     ghost use Rattle.set_ops.specs.Reach.{set_reach, no_reach};
-    ghost use Rattle.set_ops.specs.Rules.{all_whole, set_meaning_of};
+    ghost use Rattle.set_ops.specs.Rules.{set_meaning_of};
 
     ghost arity = { λ r. length r.operands };
 
@@ -146,7 +115,7 @@ impl DeltaRule for SetRule {
 
     ghost meaning = { set_meaning_of };
 
-    ghost wanted = { λ r. all_whole 0 r.operands };
+    ghost wanted = { λ r. all_whole (length r.operands) };
 
     ghost structure = { λ r. r.structure };
 

@@ -3,8 +3,8 @@ use Rattle.std.proofs.Common.{length, sym, ◌∙◌, ap, arith}
 use Rattle.std.proofs.lemmas.List.{length-map}
 use Rattle.std.specs.FinMap.{len-entries}
 use Rattle.point_sets.specs.Changes.{change_entry}
+use Rattle.held_index.specs.Holdings.{contents}
 use Rattle.choice_ops.specs.Plans.{choice_in}
-use Rattle.choice_ops.specs.Noted.{contents}
 use Rattle.choice_ops.proofs.Marked.{noted-more, noted-all}
 use Rattle.choice_ops.proofs.notes.note_changes.Goals as goal
 

@@ -2,8 +2,9 @@ use Rattle.std.proofs.Common.{List, ◌+◌, ◌*◌, ◌≤◌, map, take}
 use Rattle.std.specs.Arc.{arc_value}
 use Rattle.point_sets.specs.DataSets.{DataSet}
 use Rattle.held_index.specs.Reach.{changes_in}
+use Rattle.held_index.specs.Holdings.{AllPlain, contents}
 use Rattle.choice_ops.specs.Plans.{choice_in}
-use Rattle.choice_ops.specs.Noted.{AllPlain, Sees, contents, keys_from, IsNoted}
+use Rattle.choice_ops.specs.Noted.{Sees, keys_from, IsNoted}
 use Rattle.choice_ops.proofs.notes.noted.Given as goal
 
 -- the news of the operands so far are noted

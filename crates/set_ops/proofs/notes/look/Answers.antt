@@ -18,5 +18,5 @@ returns-clause-after g c = λ plain.
     let own = c.in_ok-own.own in
     let at : Point = record { key = own; rest = c.new.result } in
     let was : values_of (option_copied c.get-was.result) ≡ get content own = c.get-was.ensures.value ∙ found_at-plain c.args.held.now.want (point_values at) content plain in
-    c.in_ok-after.ensures ∙ c.point_after-comes.ensures ∙ ap (λ (o : Option (List Value)). after (get news own) o) was
+    c.in_ok-after.ensures ∙ c.point_after-comes.ensures.value ∙ ap (λ (o : Option (List Value)). after (get news own) o) was
     ∙ sym (get-apply key_cmp-IsTotalOrder key_cmp-IsAntisymmetric news content own) ∙ ap (get (apply news content)) c.in_ok-own.ensures

@@ -7,10 +7,9 @@ use Rattle.std.proofs.lemmas.List.{length_push, length-map}
 use Rattle.data_model.specs.Deltas.{apply}
 use Rattle.point_sets.specs.Changes.{Changes}
 use Rattle.point_sets.specs.declared.point.Point.{Point}
-use Rattle.held_index.specs.Holdings.{Holding, IsPlain}
+use Rattle.held_index.specs.Holdings.{AllPlain, Holding, IsPlain, contents}
 use Rattle.held_index.specs.Rules.{after_news}
 use Rattle.clause_meaning.specs.Clauses.{values_at}
-use Rattle.set_ops.specs.Noted.{AllPlain, contents}
 use Rattle.set_ops.specs.declared.reading.Reading.{Reading}
 use Rattle.set_ops.proofs.Looked.{content-at, arc-at, after-at, as-many-after, own-more}
 use Rattle.set_ops.proofs.notes.look_all.Goals as goal

@@ -2,8 +2,8 @@ use Rattle.std.proofs.Common.{◌≡◌, ◌+◌, ◌*◌, ◌≤◌, ◌++◌, 
 use Rattle.std.specs.Arc.{arc_value}
 use Rattle.point_sets.specs.Changes.{values_of}
 use Rattle.held_index.specs.Rules.{after_news}
+use Rattle.held_index.specs.Holdings.{AllPlain, contents}
 use Rattle.set_ops.specs.Readings.{own_points}
-use Rattle.set_ops.specs.Noted.{AllPlain, contents}
 use Rattle.set_ops.proofs.notes.look_all.Given as goal
 
 -- the operands so far are looked up, once each

@@ -6,8 +6,8 @@ use Rattle.data_model.specs.Drafts.{note_value}
 use Rattle.point_sets.specs.Changes.{Changes, values_eq, values_of}
 use Rattle.point_sets.specs.declared.point.Point.{Point}
 use Rattle.held_index.specs.Drafts.{SetDraft}
-use Rattle.held_index.specs.Holdings.{Holding}
-use Rattle.set_ops.specs.Noted.{AllPlain, noted_key}
+use Rattle.held_index.specs.Holdings.{AllPlain, Holding}
+use Rattle.set_ops.specs.Noted.{noted_key}
 use Rattle.set_ops.specs.declared.reading.Reading.{Reading}
 use Rattle.set_ops.proofs.Looked.{on-ok, noted-same}
 use Rattle.set_ops.proofs.notes.note_key.Goals as goal

@@ -6,10 +6,10 @@ use Rattle.vtl_values.proofs.Values.{key_cmp-IsTotalOrder, key_cmp-IsAntisymmetr
 use Rattle.data_model.proofs.DraftLemmas.{IsDraft-nothing}
 use Rattle.point_sets.specs.Changes.{Changes}
 use Rattle.held_index.specs.Drafts.{SetDraft}
-use Rattle.held_index.specs.Holdings.{Holding}
+use Rattle.held_index.specs.Holdings.{Holding, contents}
 use Rattle.held_index.specs.Reach.{changes_in}
 use Rattle.held_index.specs.Rules.{after_news}
-use Rattle.set_ops.specs.Noted.{contents, read_value, IsNoted, all_keys_read}
+use Rattle.set_ops.specs.Noted.{read_value, IsNoted, all_keys_read}
 use Rattle.set_ops.specs.declared.reading.Reading.{Reading}
 use Rattle.set_ops.proofs.Looked.{noted-more, keys-count, one-more}
 use Rattle.set_ops.proofs.notes.noted.Goals as goal

@@ -1,6 +1,7 @@
 use Rattle.std.proofs.Common.{◌+◌, ◌*◌, ◌≤◌, length, map, take}
 use Rattle.std.specs.Arc.{arc_value}
-use Rattle.set_ops.specs.Noted.{AllPlain, IsNoted}
+use Rattle.held_index.specs.Holdings.{AllPlain}
+use Rattle.set_ops.specs.Noted.{IsNoted}
 use Rattle.set_ops.proofs.notes.noted.Given as goal
 
 -- the keys so far are noted, with a look at each operand for each

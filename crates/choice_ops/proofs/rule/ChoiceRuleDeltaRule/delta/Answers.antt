@@ -4,10 +4,11 @@ use Rattle.std.specs.Arc.{arc_value}
 use Rattle.std.proofs.lemmas.List.{length-map}
 use Rattle.point_sets.specs.Changes.{Changes}
 use Rattle.held_index.specs.Reach.{changes_in}
+use Rattle.held_index.specs.Holdings.{contents}
 use Rattle.checked_trees.specs.Operators.{Operator}
 use Rattle.choice_meaning.specs.Typed.{IsTypedChoice}
 use Rattle.choice_ops.specs.Plans.{choice_in}
-use Rattle.choice_ops.specs.Noted.{contents, keys_from, IsNoted}
+use Rattle.choice_ops.specs.Noted.{keys_from, IsNoted}
 use Rattle.choice_ops.proofs.Marked.{right-answer, some-branches, within-reach}
 use Rattle.choice_ops.proofs.rule.ChoiceRuleDeltaRule.delta.Goals as goal
 

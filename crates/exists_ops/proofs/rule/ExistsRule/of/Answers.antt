@@ -25,7 +25,7 @@ invariant_of-result c =
       rows_are = refl;
       virals_are = c.in_ok-viral_numbers.ensures ∙ ap (numbers_of Viral) ours;
       wants_are =
-          c.from_vec.ensures ∙ c.in_ok-push-2.ensures.items ∙ ap (λ (ws : List Want). ws ++ c.parted-2.result ∷ []) (c.in_ok-push.ensures.items ∙ ap (λ (ws : List Want). ws ++ c.parted.result ∷ []) c.new-wants.ensures.items)
-          ∙ (λ i. c.parted.ensures i ∷ c.parted-2.ensures i ∷ [])
+          c.from_vec.ensures ∙ c.in_ok-push-2.ensures.items ∙ ap (λ (ws : List Want). ws ++ c.in_parts-2.result ∷ []) (c.in_ok-push.ensures.items ∙ ap (λ (ws : List Want). ws ++ c.in_parts.result ∷ []) c.new-wants.ensures.items)
+          ∙ (λ i. c.in_parts.ensures i ∷ c.in_parts-2.ensures i ∷ [])
           ∙ wants-built c.rows_of.result l r s c.components-ours.result.now c.components-theirs.result.now c.in_ok-numbers_in.field-0 c.in_ok-numbers_in-2.field-0 ours theirs c.in_ok-numbers_in.ensures c.in_ok-numbers_in-2.ensures;
     }

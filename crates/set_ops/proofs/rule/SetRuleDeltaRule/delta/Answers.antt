@@ -3,13 +3,14 @@ use Rattle.std.specs.Arc.{arc_value}
 use Rattle.std.proofs.lemmas.List.{length-map}
 use Rattle.vtl_values.specs.declared.structure.Component.{Component}
 use Rattle.point_sets.specs.Changes.{Changes}
-use Rattle.held_index.specs.Holdings.{Holding}
+use Rattle.held_index.specs.Holdings.{AllPlain, Holding}
 use Rattle.held_index.specs.Reach.{changes_in}
+use Rattle.held_index.proofs.WantLemmas.{length-all_whole}
 use Rattle.checked_trees.specs.Operators.{Operator}
-use Rattle.set_ops.specs.Noted.{AllPlain, IsNoted, all_keys_read}
+use Rattle.set_ops.specs.Noted.{IsNoted, all_keys_read}
 use Rattle.set_ops.specs.Readings.{reading_between, readings_of}
 use Rattle.set_ops.specs.declared.reading.Reading.{Reading}
-use Rattle.set_ops.proofs.Asked.{length-whole, right-for-all, few-steps}
+use Rattle.set_ops.proofs.Asked.{right-for-all, few-steps}
 use Rattle.set_ops.proofs.rule.SetRuleDeltaRule.delta.Goals as goal
 
 -- there are as many readings as operands
@@ -17,7 +18,7 @@ as-many : (rs : List Reading) (o : Operator) → rs ≡ readings_of o.operands o
 as-many rs o are = ap (λ (qs : List Reading). length qs) are ∙ length-map o.operands (λ (from : List Component). reading_between from o.structure)
 
 pub noted-requires-clause-held : goal.noted-requires-clause-held
-noted-requires-clause-held g c = let o : Operator = c.args.self.now in sym (length-map c.args.held.now (λ h. h.want)) ∙ ap length c.requires.held ∙ length-whole 0 o.operands ∙ sym (as-many c.readings-readings.result.now o c.readings-readings.ensures.value)
+noted-requires-clause-held g c = let o : Operator = c.args.self.now in sym (length-map c.args.held.now (λ h. h.want)) ∙ ap length c.requires.held ∙ length-all_whole (length o.operands) ∙ sym (as-many c.readings-readings.result.now o c.readings-readings.ensures.value)
 
 pub noted-requires-clause-news : goal.noted-requires-clause-news
 noted-requires-clause-news g c = let o : Operator = c.args.self.now in c.requires.news ∙ sym (as-many c.readings-readings.result.now o c.readings-readings.ensures.value)

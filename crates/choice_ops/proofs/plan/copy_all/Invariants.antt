@@ -1,5 +1,0 @@
-use Rattle.std.proofs.Common.{◌≡◌, take}
-use Rattle.choice_ops.proofs.plan.copy_all.Given as goal
-
-abbrev pub invariant-loop-structure : goal.invariant-loop-structure
-invariant-loop-structure l = l.copies.items ≡ take l.structure-index l.structures
