@@ -1,19 +1,12 @@
--- Which operators are built, and which scripts (docs/language.md, "What runs").
-use Rattle.std.specs.Prelude.{Bool, true, false, ◌&&◌, ⊤}
+-- Which scripts are built (docs/language.md, "What runs").
+use Rattle.std.specs.Prelude.{Bool, true, ◌&&◌, ⊤}
 use Rattle.std.specs.List.{All, list_all}
 use Rattle.vtl_values.specs.Structures.{IsStructure}
-use Rattle.data_set_trees.specs.declared.tree.DataSetOperator.{DataSetOperator}
-use Rattle.data_set_trees.specs.declared.tree.DataSetOperator.TheVariants.{Clause, Pair}
 use Rattle.data_set_trees.specs.declared.tree.DataSetTree.{DataSetTree}
 use Rattle.checked_trees.specs.declared.script.CheckedStatement.{CheckedStatement}
+use Rattle.checked_trees.specs.Operators.{is_built}
 use Rattle.checked_trees.specs.Expressions.{Expression, Expressions, Named, Applied, none, more, expression_of}
 use Rattle.checked_trees.specs.Scripts.{Script}
-
--- clauses, and scalar operators on two data sets
-abbrev pub is_built : DataSetOperator → Bool
-is_built (Clause clause) = true
-is_built (Pair items) = true
-is_built _ = false
 
 abbrev mutual
   -- all operators of an expression are built

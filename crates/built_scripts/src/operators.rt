@@ -2,21 +2,19 @@
 ghost use Rattle.std.specs.Prelude.{◌≡◌};
 ghost use Rattle.std.specs.List.{All};
 ghost use Rattle.vtl_values.specs.Structures.{IsStructure};
-ghost use Rattle.built_scripts.specs.Built as built;
+ghost use Rattle.checked_trees.specs.Operators as operators;
 
 use data_set_trees::DataSetOperator;
+use vtl_syntax::words::JoinFunction;
 use vtl_values::Structure;
 
 /// Whether an operator is built.
 pub(crate) fn is_built(operator: &DataSetOperator) -> bool
-    ensures { result ≡ built.is_built operator.now }
+    ensures { result ≡ operators.is_built operator.now }
 {
     match operator {
-        DataSetOperator::Clause(_) => true,
-        DataSetOperator::Pair { .. } => true,
-        DataSetOperator::Choice { .. } => false,
-        DataSetOperator::ExistsIn { .. } => false,
-        DataSetOperator::Set(_) => false,
+        DataSetOperator::Join(JoinFunction::Inner | JoinFunction::Cross) => false,
+        _ => true,
     }
 }
 

@@ -1,7 +1,6 @@
 pub mod PlainLemmas
 pub mod SettleLemmas
 pub mod NodeLemmas
-pub mod RuleLemmas
 pub mod WorkLemmas
 pub mod TreeLemmas
 pub mod ChildLemmas
@@ -11,3 +10,4 @@ pub mod FinishLemmas
 pub mod BuildLemmas
 pub mod NewNodeLemmas
 pub mod WantLemmas
+pub mod FamilyLemmas

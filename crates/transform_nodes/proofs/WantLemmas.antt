@@ -2,27 +2,32 @@
 use Rattle.std.proofs.Common.{◌≡◌, ◌<◌, ◌≤◌, ℕ, Bool, true, false, not, List, [], ◌∷◌, length, Option, Some, None, refl, ap, subst, sym, inl, inr, if◌then◌else◌, arith}
 use Rattle.std.specs.List.{All, filter, filter_map, position, slice_index_or}
 use Rattle.std.proofs.lemmas.Bool.{cases_Bool}
-use Rattle.std.proofs.lemmas.List.Elements.{All-nil, All-cons}
+use Rattle.std.proofs.lemmas.List.Elements.{All-nil, All-cons, All-weaker}
 use Rattle.std.proofs.lemmas.List.Filters.{length-filter_both}
 use Rattle.std.proofs.lemmas.List.Quantifiers.{position-Some}
 use Rattle.vtl_values.specs.declared.kind.Role.TheVariants.{Identifier}
 use Rattle.vtl_values.specs.declared.structure.Component.{Component}
 use Rattle.clause_trees.specs.Frames.{has_role}
 use Rattle.clause_trees.specs.declared.clause.CheckedMeasure.{CheckedMeasure}
+use Rattle.vtl_syntax.specs.declared.words.ExistsRows.{ExistsRows}
 use Rattle.data_set_trees.specs.Components.{identifiers, has_name}
 use Rattle.data_set_trees.specs.declared.tree.DataSetOperator.{DataSetOperator}
 use Rattle.data_set_trees.specs.declared.tree.DataSetOperator.TheVariants as operator
 use Rattle.checked_trees.specs.Operators.{an_operator, Operator, IsTyped, TakesOperands}
-use Rattle.held_index.specs.declared.want.OrderItem.{OrderItem}
 use Rattle.held_index.specs.declared.want.Want.{Want}
-use Rattle.held_index.specs.Holdings.{IsNumeric}
+use Rattle.held_index.specs.Wants.{all_whole, in_parts, whole}
+use Rattle.held_index.proofs.WantLemmas.{all_whole-each, in_parts-fits, whole-fits}
 use Rattle.pair_meaning.specs.Pairs.{PairOn, is_left_main, main, partner}
 use Rattle.pair_eval.specs.Plans.{partner_numbers}
 use Rattle.pair_ops.specs.Rules as pair
+use Rattle.exists_meaning.specs.Exists.{exists_on}
+use Rattle.exists_ops.specs.Parts.{left_want, right_want}
+use Rattle.exists_ops.specs.Rules as exists
+use Rattle.exists_ops.proofs.Wanted.{left-fits, right-fits}
 use Rattle.transform_nodes.specs.Building.{AreWanted, IsWanted}
 use Rattle.transform_nodes.specs.Rules.{operator_of, wanted_of}
 use Rattle.transform_nodes.specs.declared.rule.Rule.{Rule}
-use Rattle.transform_nodes.specs.declared.rule.Rule.TheVariants.{Clause, Pair}
+use Rattle.transform_nodes.specs.declared.rule.Rule.TheVariants.{Clause, Pair, Choice, Exists, Set, OuterJoin}
 
 number-below : (s : List Component) (c : Component) (cs : List Component) (n : ℕ) → length s ≤ n → (o : Option ℕ) → position (has_name c.name) s ≡ o
     → All (λ k. k < n) (filter_map (λ d. position (has_name d.name) s) cs) → All (λ k. k < n) (filter_map (λ d. position (has_name d.name) s) (c ∷ cs))
@@ -44,11 +49,8 @@ partner-below : (p : PairOn) → All (λ k. k < length (main p)) (partner_number
 partner-below p = numbers-below (identifiers (main p)) (identifiers (partner p)) (length (main p)) (few-identifiers (main p))
 
 -- an operand that there is, in parts by components of it
-wanted-in_parts : (n : ℕ) (ns : List ℕ) (operands : List (List Component)) → n < length operands → ((operand : List Component) → All (λ k. k < length (slice_index_or operands n operand)) ns) → IsWanted (pair.in_parts n ns) operands
-wanted-in_parts n ns operands there below = record {
-  below = there;
-  fits = λ operand. record { part = below operand; order = All-nil _; sums = All-nil _ };
-}
+wanted-in_parts : (n : ℕ) (ns : List ℕ) (operands : List (List Component)) → n < length operands → ((operand : List Component) → All (λ k. k < length (slice_index_or operands n operand)) ns) → IsWanted (in_parts n ns) operands
+wanted-in_parts n ns operands there below = record { below = there; fits = λ operand. in_parts-fits n ns (slice_index_or operands n operand) (below operand) }
 
 two-wanted : (v w : Want) (operands : List (List Component)) → IsWanted v operands → IsWanted w operands → AreWanted (v ∷ w ∷ []) operands
 two-wanted v w operands first second = All-cons (λ u. IsWanted u operands) v (w ∷ []) first (All-cons (λ u. IsWanted u operands) w [] second (All-nil (λ u. IsWanted u operands)))
@@ -60,27 +62,48 @@ pair-wanted p = by_main (is_left_main p) refl
     operands = p.left ∷ p.right ∷ []
 
     Wanted : Bool → Type 0
-    Wanted b = AreWanted (if b then pair.in_parts 0 (partner_numbers p) ∷ pair.whole 1 ∷ [] else pair.whole 0 ∷ pair.in_parts 1 (partner_numbers p) ∷ []) operands
+    Wanted b = AreWanted (if b then in_parts 0 (partner_numbers p) ∷ whole 1 ∷ [] else whole 0 ∷ in_parts 1 (partner_numbers p) ∷ []) operands
 
     by_main : (b : Bool) → is_left_main p ≡ b → AreWanted (pair.wants_on p) operands
     by_main true e =
         let below : All (λ k. k < length p.left) (partner_numbers p) = subst (λ (b : Bool). All (λ k. k < length (if b then p.left else p.right)) (partner_numbers p)) e (partner-below p) in
-        subst (λ (b : Bool). AreWanted (if b then pair.in_parts 0 (partner_numbers p) ∷ pair.whole 1 ∷ [] else pair.whole 0 ∷ pair.in_parts 1 (partner_numbers p) ∷ []) operands) (sym e)
-        (two-wanted (pair.in_parts 0 (partner_numbers p)) (pair.whole 1) operands (wanted-in_parts 0 (partner_numbers p) operands (omega arith) (λ operand. below)) (wanted-in_parts 1 [] operands (omega arith) (λ operand. All-nil _)))
+        subst (λ (b : Bool). AreWanted (if b then in_parts 0 (partner_numbers p) ∷ whole 1 ∷ [] else whole 0 ∷ in_parts 1 (partner_numbers p) ∷ []) operands) (sym e)
+        (two-wanted (in_parts 0 (partner_numbers p)) (whole 1) operands (wanted-in_parts 0 (partner_numbers p) operands (omega arith) (λ operand. below)) (wanted-in_parts 1 [] operands (omega arith) (λ operand. All-nil _)))
     by_main false e =
         let below : All (λ k. k < length p.right) (partner_numbers p) = subst (λ (b : Bool). All (λ k. k < length (if b then p.left else p.right)) (partner_numbers p)) e (partner-below p) in
-        subst (λ (b : Bool). AreWanted (if b then pair.in_parts 0 (partner_numbers p) ∷ pair.whole 1 ∷ [] else pair.whole 0 ∷ pair.in_parts 1 (partner_numbers p) ∷ []) operands) (sym e)
-        (two-wanted (pair.whole 0) (pair.in_parts 1 (partner_numbers p)) operands (wanted-in_parts 0 [] operands (omega arith) (λ operand. All-nil _)) (wanted-in_parts 1 (partner_numbers p) operands (omega arith) (λ operand. below)))
+        subst (λ (b : Bool). AreWanted (if b then in_parts 0 (partner_numbers p) ∷ whole 1 ∷ [] else whole 0 ∷ in_parts 1 (partner_numbers p) ∷ []) operands) (sym e)
+        (two-wanted (whole 0) (in_parts 1 (partner_numbers p)) operands (wanted-in_parts 0 [] operands (omega arith) (λ operand. All-nil _)) (wanted-in_parts 1 (partner_numbers p) operands (omega arith) (λ operand. below)))
 
 pairs-wanted : (o : DataSetOperator) (operands : List (List Component)) (structure : List Component) → TakesOperands (an_operator o operands structure) → AreWanted (pair.wanted_of (an_operator o operands structure)) operands
-pairs-wanted (operator.Clause clause) operands structure takes = All-nil (λ w. IsWanted w operands)
 pairs-wanted (operator.Pair items) operands structure takes =
     subst (λ (ss : List (List Component)). AreWanted (pair.wanted_of (an_operator (operator.Pair items) ss structure)) ss) (sym takes.two) (pair-wanted (pair.pair_in (an_operator (operator.Pair items) (takes.left ∷ takes.right ∷ []) structure)))
-pairs-wanted (operator.Choice holds fails items) operands structure takes = absurd takes
-pairs-wanted (operator.ExistsIn rows) operands structure takes = absurd takes
-pairs-wanted (operator.Set operation) operands structure takes = absurd takes
+pairs-wanted _ operands structure takes = All-nil (λ w. IsWanted w operands)
+
+exists-wanted-on_two : (rows : ExistsRows) (operands : List (List Component)) (structure : List Component) → AreWanted (exists.wanted_on_two rows operands structure) operands
+exists-wanted-on_two rows [] structure = All-nil (λ w. IsWanted w [])
+exists-wanted-on_two rows (left ∷ []) structure = All-nil (λ w. IsWanted w (left ∷ []))
+exists-wanted-on_two rows (left ∷ right ∷ operands) structure =
+    let e = exists_on rows left right structure in
+    two-wanted (left_want e) (right_want e) (left ∷ right ∷ operands) (record { below = omega arith; fits = λ operand. left-fits e }) (record { below = omega arith; fits = λ operand. right-fits e })
+
+exists-wanted : (o : DataSetOperator) (operands : List (List Component)) (structure : List Component) → AreWanted (exists.wanted_of (an_operator o operands structure)) operands
+exists-wanted (operator.ExistsIn rows) operands structure = exists-wanted-on_two rows operands structure
+exists-wanted _ operands structure = All-nil (λ w. IsWanted w operands)
+
+-- all operands, whole
+all-wanted : (operands : List (List Component)) → AreWanted (all_whole (length operands)) operands
+all-wanted operands = all_whole-each (λ w. IsWanted w operands) (length operands) (λ n within. record { below = within; fits = λ operand. whole-fits n (slice_index_or operands n operand) })
 
 -- what a rule wants of its operator's operands
 pub rule-wanted : (rule : Rule) → IsTyped (operator_of rule) → AreWanted (wanted_of rule) (operator_of rule).operands
 rule-wanted (Clause rule) typed = All-nil (λ w. IsWanted w rule.operands)
 rule-wanted (Pair rule) typed = pairs-wanted rule.operator rule.operands rule.structure typed.takes
+rule-wanted (Choice rule) typed = all-wanted rule.operands
+rule-wanted (Exists rule) typed = exists-wanted rule.operator rule.operands rule.structure
+rule-wanted (Set rule) typed = all-wanted rule.operands
+rule-wanted (OuterJoin rule) typed = all-wanted rule.operands
+
+-- a rule wants operands that its operator has
+pub wanted_below : (rule : Rule) → IsTyped (operator_of rule) → All (λ w. w.operand < length (operator_of rule).operands) (wanted_of rule)
+wanted_below rule typed =
+    All-weaker (λ w. IsWanted w (operator_of rule).operands) (λ w. w.operand < length (operator_of rule).operands) (λ w wanted. wanted.below) (wanted_of rule) (rule-wanted rule typed)

@@ -33,7 +33,7 @@ use Rattle.transform_nodes.specs.Rules.{operator_of, wanted_of}
 use Rattle.transform_nodes.specs.Runs.{news_of, AllLeads, planned, IsPlannable, CanPlan, IsWork, IsWorked}
 use Rattle.transform_nodes.specs.declared.operate.Worked.{Worked}
 use Rattle.transform_nodes.specs.declared.rule.Rule.{Rule}
-use Rattle.transform_nodes.proofs.RuleLemmas.{wanted_below}
+use Rattle.transform_nodes.proofs.WantLemmas.{wanted_below}
 
 -- what is held of data sets is what is wanted of them
 pub wants-held : (zs : List DataSet) (ws : List Want) → map (λ h. h.want) (map (holding_of zs) ws) ≡ ws

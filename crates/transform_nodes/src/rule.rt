@@ -1,16 +1,21 @@
 // The rule of any operator.
 ghost use Rattle.std.specs.Prelude.{◌≡◌, IfOk};
 
+use choice_ops::ChoiceRule;
 use clause_ops::ClauseRule;
 use data_model::steps::Steps;
 use data_set_trees::{DataSetNode, DataSetOperator};
+use exists_ops::ExistsRule;
 use held_index::{DeltaRule, Held, Stop, Want};
+use outer_joins::OuterJoinRule;
 use pair_ops::PairRule;
 use point_sets::Delta;
+use set_ops::SetRule;
 use std::alloc::{AllocError, Global};
 use std::sync::Arc;
 use std::sync::ledger::Ledger;
 use std::thread::Threads;
+use vtl_syntax::words::JoinFunction;
 use vtl_values::Structure;
 
 /// The rule of an operator, by its family.
@@ -18,6 +23,10 @@ use vtl_values::Structure;
 pub enum Rule {
     Clause(ClauseRule),
     Pair(PairRule),
+    Choice(ChoiceRule),
+    Exists(ExistsRule),
+    Set(SetRule),
+    OuterJoin(OuterJoinRule),
 }
 
 impl Rule {
@@ -32,9 +41,14 @@ impl Rule {
         match node.operator.get() {
             DataSetOperator::Clause(_) => Ok(Rule::Clause(ClauseRule::of(alloc, node)?)),
             DataSetOperator::Pair { .. } => Ok(Rule::Pair(PairRule::of(alloc, node)?)),
-            DataSetOperator::Choice { .. } => unreachable!(),
-            DataSetOperator::ExistsIn { .. } => unreachable!(),
-            DataSetOperator::Set(_) => unreachable!(),
+            DataSetOperator::Choice { .. } => Ok(Rule::Choice(ChoiceRule::of(alloc, node)?)),
+            DataSetOperator::ExistsIn { .. } => Ok(Rule::Exists(ExistsRule::of(alloc, node)?)),
+            DataSetOperator::Set(_) => Ok(Rule::Set(SetRule::of(alloc, node)?)),
+            DataSetOperator::Join(JoinFunction::Left | JoinFunction::Full) => {
+                Ok(Rule::OuterJoin(OuterJoinRule::of(alloc, node)?))
+            }
+            DataSetOperator::Join(JoinFunction::Inner | JoinFunction::Cross) => unreachable!(),
+            DataSetOperator::InJoin(_) => Ok(Rule::Clause(ClauseRule::of(alloc, node)?)),
         }
     }
 }
@@ -63,6 +77,10 @@ impl DeltaRule for Rule {
         match self {
             Rule::Clause(rule) => rule.wants(),
             Rule::Pair(rule) => rule.wants(),
+            Rule::Choice(rule) => rule.wants(),
+            Rule::Exists(rule) => rule.wants(),
+            Rule::Set(rule) => rule.wants(),
+            Rule::OuterJoin(rule) => rule.wants(),
         }
     }
 
@@ -70,6 +88,10 @@ impl DeltaRule for Rule {
         match self {
             Rule::Clause(rule) => rule.result(),
             Rule::Pair(rule) => rule.result(),
+            Rule::Choice(rule) => rule.result(),
+            Rule::Exists(rule) => rule.result(),
+            Rule::Set(rule) => rule.result(),
+            Rule::OuterJoin(rule) => rule.result(),
         }
     }
 
@@ -82,9 +104,26 @@ impl DeltaRule for Rule {
         news: &[Arc<Delta>],
         steps: &mut Steps<L>,
     ) -> Result<Delta, Stop> {
+        // Four families have a meaning of their own. What a call promises of the operator is wanted for them, and not its value.
         match self {
             Rule::Clause(rule) => rule.delta(rt, alloc, before, held, news, steps),
             Rule::Pair(rule) => rule.delta(rt, alloc, before, held, news, steps),
+            Rule::Choice(rule) => {
+                let _ = rule.branches();
+                rule.delta(rt, alloc, before, held, news, steps)
+            }
+            Rule::Exists(rule) => {
+                let _ = rule.rows();
+                rule.delta(rt, alloc, before, held, news, steps)
+            }
+            Rule::Set(rule) => {
+                let _ = rule.operation();
+                rule.delta(rt, alloc, before, held, news, steps)
+            }
+            Rule::OuterJoin(rule) => {
+                let _ = rule.plan();
+                rule.delta(rt, alloc, before, held, news, steps)
+            }
         }
     }
 }

@@ -6,7 +6,7 @@ use Rattle.held_index.specs.declared.want.Want.{Want}
 use Rattle.held_index.specs.Holdings.{Holding}
 use Rattle.transform_nodes.specs.Rules.{wanted_of}
 use Rattle.transform_nodes.specs.Runs.{planned, CanPlan}
-use Rattle.transform_nodes.proofs.RuleLemmas.{wanted_below}
+use Rattle.transform_nodes.proofs.WantLemmas.{wanted_below}
 use Rattle.transform_nodes.proofs.WorkLemmas.{wants-held, asked, can_plan, work_right, work_stop}
 use Rattle.transform_nodes.proofs.operate.work.Goals as goal
 
