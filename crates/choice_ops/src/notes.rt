@@ -20,17 +20,19 @@ use clause_eval::Evaluation;
 use data_model::steps::Steps;
 use held_index::{Draft, Held};
 use point_sets::{Change, Delta, Key, Point};
+use scalar_eval::Matchers;
 use sqlite_items::Items;
 use std::alloc::{AllocError, Global};
 use std::sync::Arc;
 use std::sync::ledger::Ledger;
 
 /// What is noted of the news of all operands.
-pub(crate) fn noted<L: Ledger>(
+pub(crate) fn noted<'a, L: Ledger>(
     alloc: Global,
-    plan: &ChoicePlan,
+    plan: &'a ChoicePlan,
     held: &[Held],
     news: &[Arc<Delta>],
+    matchers: &mut Matchers<'a>,
     steps: &mut Steps<L>,
 ) -> Result<Draft, AllocError>
     requires { length news.now ≡ length plan.now.operands }
@@ -39,20 +41,23 @@ pub(crate) fn noted<L: Ledger>(
 {
     let mut draft = Draft::new(alloc);
     for (number, own) in news.iter().enumerate() {
-        note_changes(alloc, plan, number, own, held, news, &mut draft, steps)?;
+        note_changes(
+            alloc, plan, number, own, held, news, &mut draft, matchers, steps,
+        )?;
     }
     Ok(draft)
 }
 
 /// Notes what the changes of the operand with this number make of the result.
-fn note_changes<L: Ledger>(
+fn note_changes<'a, L: Ledger>(
     alloc: Global,
-    plan: &ChoicePlan,
+    plan: &'a ChoicePlan,
     number: usize,
     own: &Delta,
     held: &[Held],
     news: &[Arc<Delta>],
     draft: &mut Draft,
+    matchers: &mut Matchers<'a>,
     steps: &mut Steps<L>,
 ) -> Result<(), AllocError>
     requires { number < length plan.now.operands }
@@ -61,20 +66,31 @@ fn note_changes<L: Ledger>(
     ensures steps { steps.new ≤ steps.old + 6 * finmap.len own.now }
 {
     for change in own.changes() {
-        note_change(alloc, plan, number, &change.key, held, news, draft, steps)?;
+        note_change(
+            alloc,
+            plan,
+            number,
+            &change.key,
+            held,
+            news,
+            draft,
+            matchers,
+            steps,
+        )?;
     }
     Ok(())
 }
 
 /// Notes what the result had and has where a key of the operand with this number counts.
-fn note_change<L: Ledger>(
+fn note_change<'a, L: Ledger>(
     alloc: Global,
-    plan: &ChoicePlan,
+    plan: &'a ChoicePlan,
     number: usize,
     key: &Key,
     held: &[Held],
     news: &[Arc<Delta>],
     draft: &mut Draft,
+    matchers: &mut Matchers<'a>,
     steps: &mut Steps<L>,
 ) -> Result<(), AllocError>
     requires { number < length plan.now.operands }
@@ -88,19 +104,20 @@ fn note_change<L: Ledger>(
     };
     let before = look(held, 0, &at, steps);
     let after = after_news(news, 0, &at.key, before);
-    let old = made(alloc, plan, &at.key, before, held, &[], steps)?;
-    let new = made(alloc, plan, &at.key, after, held, news, steps)?;
+    let old = made(alloc, plan, &at.key, before, held, &[], matchers, steps)?;
+    let new = made(alloc, plan, &at.key, after, held, news, matchers, steps)?;
     note(&at.key, old, new, draft)
 }
 
 /// What the conditional makes at a key, where this is the condition's point, of what is held and its news.
-fn made<L: Ledger>(
+fn made<'a, L: Ledger>(
     alloc: Global,
-    plan: &ChoicePlan,
+    plan: &'a ChoicePlan,
     key: &Key,
     own: Option<&Arc<Point>>,
     held: &[Held],
     news: &[Arc<Delta>],
+    matchers: &mut Matchers<'a>,
     steps: &mut Steps<L>,
 ) -> Result<Evaluation, AllocError>
     ensures made { IfOk result (λ made. (sets : List DataSet) → AllPlain held.now → Sees held.now (map arc_value news.now) sets →
@@ -114,14 +131,14 @@ fn made<L: Ledger>(
     };
     let truth = plan.is_true_in(own);
     let Some(number) = plan.chosen_number(truth) else {
-        return plan.evaluate(alloc, key, truth, own, None);
+        return plan.evaluate(alloc, key, truth, own, None, matchers);
     };
     let at = Point {
         key: plan.operand_key(alloc, number, key)?,
         rest: Items::new(alloc),
     };
     match after_news(news, number, &at.key, look(held, number, &at, steps)) {
-        Some(point) => plan.evaluate(alloc, key, truth, own, Some(point)),
+        Some(point) => plan.evaluate(alloc, key, truth, own, Some(point), matchers),
         None => Ok(Evaluation::Absent),
     }
 }

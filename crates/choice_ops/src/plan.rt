@@ -21,7 +21,7 @@ use crate::values::{ViralPlaces, measure_values, value_with, viral_values};
 use clause_eval::Evaluation;
 use data_set_trees::{Branch, ChoiceMeasure, DataSetNode, DataSetOperator, SharedOperator};
 use point_sets::{Key, Point};
-use scalar_eval::{EvalStop, PointRow};
+use scalar_eval::{EvalStop, Matchers, PointRow};
 use sqlite_items::Items;
 use std::alloc::{AllocError, Global};
 use std::marker::Model;
@@ -138,11 +138,12 @@ fn holds(value: Option<&Value>) -> bool
 }
 
 /// The values of measures in the point that is chosen.
-fn measures_on(
+fn measures_on<'a>(
     alloc: Global,
-    measures: &[ChoiceMeasure],
+    measures: &'a [ChoiceMeasure],
     truth: bool,
     point: &Point,
+    matchers: &mut Matchers<'a>,
 ) -> Result<Items<Value>, EvalStop>
     ensures { IsMeant (values_on (point_row point.now.key point.now.rest) (map (meant.value_in truth) measures.now)) result }
 {
@@ -150,7 +151,7 @@ fn measures_on(
         key: point.key.values(),
         rest: point.rest.as_slice(),
     };
-    measure_values(alloc, measures, truth, &row)
+    measure_values(alloc, measures, truth, &row, matchers)
 }
 
 /// A point of this key and these values.
@@ -244,39 +245,41 @@ impl ChoicePlan {
     }
 
     /// The values of the measures in the point that is chosen, or in a scalar.
-    fn measures(
-        &self,
+    fn measures<'a>(
+        &'a self,
         alloc: Global,
         truth: bool,
         chosen: Option<&Arc<Point>>,
+        matchers: &mut Matchers<'a>,
     ) -> Result<Items<Value>, EvalStop>
         ensures { IsMeant (values_on (point_row (plans.chosen_entry (option_copied chosen.entry)).0 (plans.chosen_entry (option_copied chosen.entry)).1) (map (meant.value_in truth) (plans.choice_in self.now).measures)) result }
     {
         let measures = measures_of(self.operator.get());
         match chosen {
-            Some(point) => measures_on(alloc, measures, truth, point),
+            Some(point) => measures_on(alloc, measures, truth, point, matchers),
             None => {
                 let row = PointRow {
                     key: &[],
                     rest: &[],
                 };
-                measure_values(alloc, measures, truth, &row)
+                measure_values(alloc, measures, truth, &row, matchers)
             }
         }
     }
 
     /// What the condition's point and that of the branch, if it is a data set, make at this key.
-    pub(crate) fn evaluate(
-        &self,
+    pub(crate) fn evaluate<'a>(
+        &'a self,
         alloc: Global,
         key: &Key,
         truth: bool,
         own: &Arc<Point>,
         chosen: Option<&Arc<Point>>,
+        matchers: &mut Matchers<'a>,
     ) -> Result<Evaluation, AllocError>
         ensures { IfOk result (plans.IsMade (plans.choice_in self.now) truth key.now (plans.all_of (entry_of own.now)) (plans.chosen_entry (option_copied chosen.entry))) }
     {
-        match self.measures(alloc, truth, chosen) {
+        match self.measures(alloc, truth, chosen, matchers) {
             Ok(mut values) => {
                 let virals = self.virals.as_slice();
                 values.append(viral_values(alloc, virals, truth, own, chosen)?)?;

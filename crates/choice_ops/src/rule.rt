@@ -12,6 +12,7 @@ use data_model::steps::Steps;
 use data_set_trees::{Branch, DataSetNode};
 use held_index::{DeltaRule, Held, Stop, Want, all_whole};
 use point_sets::Delta;
+use scalar_eval::Matchers;
 use sqlite_items::Items;
 use std::alloc::{AllocError, Global};
 use std::marker::Model;
@@ -101,6 +102,7 @@ impl DeltaRule for ChoiceRule {
         news: &[Arc<Delta>],
         steps: &mut Steps<L>,
     ) -> Result<Delta, Stop> {
-        noted(alloc, &self.plan, held, news, steps)?.finish(alloc, before)
+        let mut matchers = Matchers::new(alloc);
+        noted(alloc, &self.plan, held, news, &mut matchers, steps)?.finish(alloc, before)
     }
 }

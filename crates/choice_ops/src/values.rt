@@ -13,7 +13,7 @@ ghost use Rattle.choice_ops.specs.Plans as plans;
 
 use data_set_trees::ChoiceMeasure;
 use point_sets::Point;
-use scalar_eval::{EvalStop, Row, eval};
+use scalar_eval::{EvalStop, Matchers, Row, eval};
 use scalar_trees::CheckedExpr;
 use sqlite_items::Items;
 use std::alloc::{AllocError, Global};
@@ -164,17 +164,18 @@ fn chosen_measure(truth: bool, measure: &ChoiceMeasure) -> &CheckedExpr
 }
 
 /// The values of measures in the branch that is chosen.
-pub(crate) fn measure_values<R: Row>(
+pub(crate) fn measure_values<'a, R: Row>(
     alloc: Global,
-    measures: &[ChoiceMeasure],
+    measures: &'a [ChoiceMeasure],
     truth: bool,
     row: &R,
+    matchers: &mut Matchers<'a>,
 ) -> Result<Items<Value>, EvalStop>
     ensures { IsMeant (values_on (R.values row.now) (map (value_in truth) measures.now)) result }
 {
     let mut values = Items::new(alloc);
     for measure in measures {
-        values.push(eval(alloc, chosen_measure(truth, measure), row)?)?;
+        values.push(eval(alloc, chosen_measure(truth, measure), row, matchers)?)?;
     }
     Ok(values)
 }

@@ -13,7 +13,7 @@ use crate::items::{measure_values, with_items};
 use crate::values::{picked, picked_of};
 use clause_trees::{CheckedClause, CheckedItem, CheckedMeasure};
 use point_sets::{Key, Point};
-use scalar_eval::{EvalStop, PointRow, eval};
+use scalar_eval::{EvalStop, Matchers, PointRow, eval};
 use scalar_trees::CheckedExpr;
 use sqlite_items::Items;
 use std::alloc::{AllocError, Global};
@@ -49,11 +49,12 @@ impl Evaluation {
 
 /// What a clause that leaves points their keys makes of a point, where the values that it takes over have these numbers.
 /// A point that stays as it is is shared.
-pub fn evaluate(
+pub fn evaluate<'a>(
     alloc: Global,
-    clause: &CheckedClause,
+    clause: &'a CheckedClause,
     picks: &[u64],
     point: &Arc<Point>,
+    matchers: &mut Matchers<'a>,
 ) -> Result<Evaluation, AllocError>
     requires { keeps_keys clause.now ≡ true }
     ensures key { IfOk result (λ made. HasKey (key_of point.now) (found.point_in made)) }
@@ -61,20 +62,25 @@ pub fn evaluate(
         IfOk result (found.IsEvaluation (key_of point.now) (is_beyond_on clause.now (key_of point.now) (rest_of point.now)) (values_from clause.now frame (key_of point.now) (rest_of point.now) (key_of point.now))) }
 {
     match clause {
-        CheckedClause::Filter { condition } => chosen(alloc, condition, point),
-        CheckedClause::Calc { items } => calculated(alloc, items.as_slice(), picks, point),
+        CheckedClause::Filter { condition } => chosen(alloc, condition, point, matchers),
+        CheckedClause::Calc { items } => {
+            calculated(alloc, items.as_slice(), picks, point, matchers)
+        }
         CheckedClause::Keep { .. } | CheckedClause::Drop { .. } => staying(alloc, picks, point),
         CheckedClause::Rename { .. } => unchanged(point),
-        CheckedClause::Measures { items } => measured(alloc, items.as_slice(), picks, point),
+        CheckedClause::Measures { items } => {
+            measured(alloc, items.as_slice(), picks, point, matchers)
+        }
         CheckedClause::Sub { .. } | CheckedClause::Unpivot { .. } => unreachable!(),
     }
 }
 
 /// The point, if the condition is true of it.
-fn chosen(
+fn chosen<'a>(
     alloc: Global,
-    condition: &CheckedExpr,
+    condition: &'a CheckedExpr,
     point: &Arc<Point>,
+    matchers: &mut Matchers<'a>,
 ) -> Result<Evaluation, AllocError>
     ensures { IfOk result (found.IsEvaluation (key_of point.now) (is_none (meaning (point_row (key_of point.now) (rest_of point.now)) condition.now)) (then_some (meant.is_true_at condition.now (key_of point.now) (rest_of point.now)) (rest_of point.now))) }
 {
@@ -82,7 +88,7 @@ fn chosen(
         key: point.key.values(),
         rest: point.rest.as_slice(),
     };
-    match eval(alloc, condition, &row) {
+    match eval(alloc, condition, &row, matchers) {
         Ok(Value::Truth(true)) => unchanged(point),
         Ok(_) => Ok(Evaluation::Absent),
         Err(EvalStop::Range) => Ok(Evaluation::OutOfRange),
@@ -97,15 +103,16 @@ fn unchanged(point: &Arc<Point>) -> Result<Evaluation, AllocError>
 }
 
 /// The point with the values that are picked of those that there are once the items are worked out.
-fn calculated(
+fn calculated<'a>(
     alloc: Global,
-    items: &[CheckedItem],
+    items: &'a [CheckedItem],
     picks: &[u64],
     point: &Arc<Point>,
+    matchers: &mut Matchers<'a>,
 ) -> Result<Evaluation, AllocError>
     ensures { IfOk result (found.IsEvaluation (key_of point.now) (is_none (meant.item_values (point_row (key_of point.now) (rest_of point.now)) items.now)) (option_map (λ vs. meant.values_at picks.now (meant.put_values items.now vs (key_of point.now ++ rest_of point.now))) (meant.item_values (point_row (key_of point.now) (rest_of point.now)) items.now))) }
 {
-    match with_items(alloc, items, point) {
+    match with_items(alloc, items, point, matchers) {
         Ok(values) => made(
             alloc,
             &point.key,
@@ -128,15 +135,16 @@ fn staying(alloc: Global, picks: &[u64], point: &Arc<Point>) -> Result<Evaluatio
 }
 
 /// The point with its measures worked out, and the values that are picked after them.
-fn measured(
+fn measured<'a>(
     alloc: Global,
-    items: &[CheckedMeasure],
+    items: &'a [CheckedMeasure],
     picks: &[u64],
     point: &Arc<Point>,
+    matchers: &mut Matchers<'a>,
 ) -> Result<Evaluation, AllocError>
     ensures { IfOk result (found.IsEvaluation (key_of point.now) (is_none (meant.worked_values (point_row (key_of point.now) (rest_of point.now)) items.now)) (option_map (λ vs. vs ++ meant.values_at picks.now (key_of point.now ++ rest_of point.now)) (meant.worked_values (point_row (key_of point.now) (rest_of point.now)) items.now))) }
 {
-    match measure_values(alloc, items, point) {
+    match measure_values(alloc, items, point, matchers) {
         Ok(mut values) => {
             values.append(Items::from_vec(picked_of(alloc, picks, point)?))?;
             made(alloc, &point.key, values)

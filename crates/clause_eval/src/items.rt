@@ -7,16 +7,17 @@ ghost use Rattle.clause_meaning.specs.Clauses as meant;
 use crate::values::all_of;
 use clause_trees::{CheckedItem, CheckedMeasure, Target};
 use point_sets::Point;
-use scalar_eval::{EvalStop, PointRow, eval};
+use scalar_eval::{EvalStop, Matchers, PointRow, eval};
 use sqlite_items::Items;
 use std::alloc::{AllocError, Global};
 use vtl_values::Value;
 
 /// A point's values with those of the items in their places, each worked out on the point as it was.
-pub(crate) fn with_items(
+pub(crate) fn with_items<'a>(
     alloc: Global,
-    items: &[CheckedItem],
+    items: &'a [CheckedItem],
     point: &Point,
+    matchers: &mut Matchers<'a>,
 ) -> Result<Items<Value>, EvalStop>
     ensures { IsMeant (option_map (λ vs. meant.put_values items.now vs (point.now.key ++ point.now.rest)) (meant.item_values (point_row point.now.key point.now.rest) items.now)) result }
 {
@@ -26,7 +27,7 @@ pub(crate) fn with_items(
     };
     let mut values = all_of(alloc, point)?;
     for item in items {
-        let value = eval(alloc, &item.value, &row)?;
+        let value = eval(alloc, &item.value, &row, matchers)?;
         put(&mut values, &item.target, value)?;
     }
     Ok(values)
@@ -49,10 +50,11 @@ fn put(values: &mut Items<Value>, target: &Target, value: Value) -> Result<(), A
 }
 
 /// The values of measures that are worked out on a point.
-pub(crate) fn measure_values(
+pub(crate) fn measure_values<'a>(
     alloc: Global,
-    items: &[CheckedMeasure],
+    items: &'a [CheckedMeasure],
     point: &Point,
+    matchers: &mut Matchers<'a>,
 ) -> Result<Items<Value>, EvalStop>
     ensures { IsMeant (meant.worked_values (point_row point.now.key point.now.rest) items.now) result }
 {
@@ -62,7 +64,7 @@ pub(crate) fn measure_values(
     };
     let mut values = Items::new(alloc);
     for item in items {
-        values.push(eval(alloc, &item.value, &row)?)?;
+        values.push(eval(alloc, &item.value, &row, matchers)?)?;
     }
     Ok(values)
 }

@@ -24,17 +24,19 @@ use clause_eval::{Evaluation, evaluate, has_values, key_left, key_with_name, mea
 use clause_trees::{CheckedClause, CheckedSubItem};
 use held_index::Draft;
 use point_sets::{Change, Delta, Key, Point};
+use scalar_eval::Matchers;
 use std::alloc::{AllocError, Global};
 use std::sync::Arc;
 use vtl_values::{Component, Role};
 
 /// What is noted of the changes of the operand. The values that the clause takes over are picked, by number.
-pub fn noted(
+pub fn noted<'a>(
     alloc: Global,
-    clause: &CheckedClause,
+    clause: &'a CheckedClause,
     components: &[Component],
     picks: &[u64],
     news: &Delta,
+    matchers: &mut Matchers<'a>,
 ) -> Result<Draft, AllocError>
     requires structure { IsStructure components.now }
     requires picks { picks.now ≡ picks_of clause.now (frame_of components.now) }
@@ -42,20 +44,23 @@ pub fn noted(
 {
     let mut draft = Draft::new(alloc);
     for change in news.changes() {
-        note_change(alloc, clause, components, picks, change, &mut draft)?;
+        note_change(
+            alloc, clause, components, picks, change, &mut draft, matchers,
+        )?;
     }
     Ok(draft)
 }
 
 /// Notes what the result had and has at the keys at which the points of a change count, or that the clause is out of
 /// range at its new point.
-fn note_change(
+fn note_change<'a>(
     alloc: Global,
-    clause: &CheckedClause,
+    clause: &'a CheckedClause,
     components: &[Component],
     picks: &[u64],
     change: &Change,
     draft: &mut Draft,
+    matchers: &mut Matchers<'a>,
 ) -> Result<(), AllocError>
     requires change { IsChange change.now }
     requires structure { IsStructure components.now }
@@ -70,33 +75,37 @@ fn note_change(
         | CheckedClause::Keep { .. }
         | CheckedClause::Drop { .. }
         | CheckedClause::Rename { .. }
-        | CheckedClause::Measures { .. } => note_in_place(alloc, clause, picks, change, draft),
+        | CheckedClause::Measures { .. } => {
+            note_in_place(alloc, clause, picks, change, draft, matchers)
+        }
     }
 }
 
 /// Of a clause that leaves points their keys.
-fn note_in_place(
+fn note_in_place<'a>(
     alloc: Global,
-    clause: &CheckedClause,
+    clause: &'a CheckedClause,
     picks: &[u64],
     change: &Change,
     draft: &mut Draft,
+    matchers: &mut Matchers<'a>,
 ) -> Result<(), AllocError>
     requires change { IsChange change.now }
     requires in_place { keeps_keys clause.now ≡ true }
     ensures { (frame : Frame) → picks.now ≡ picks_of clause.now frame → OnOk result (draft.new ≡ noted_change clause.now frame change.now draft.old) }
 {
-    let old = evaluate_at(alloc, clause, picks, change.old.as_ref())?;
-    let new = evaluate_at(alloc, clause, picks, change.new.as_ref())?;
+    let old = evaluate_at(alloc, clause, picks, change.old.as_ref(), matchers)?;
+    let new = evaluate_at(alloc, clause, picks, change.new.as_ref(), matchers)?;
     note(&change.key, old, new, draft)
 }
 
 /// What a clause makes of the point that may be there.
-fn evaluate_at(
+fn evaluate_at<'a>(
     alloc: Global,
-    clause: &CheckedClause,
+    clause: &'a CheckedClause,
     picks: &[u64],
     point: Option<&Arc<Point>>,
+    matchers: &mut Matchers<'a>,
 ) -> Result<Evaluation, AllocError>
     requires { keeps_keys clause.now ≡ true }
     ensures key { (key : List V) → HasKey key (option_copied point.entry) → IfOk result (λ made. HasKey key (found.point_in made)) }
@@ -104,7 +113,7 @@ fn evaluate_at(
         IfOk result (found.IsEvaluation key (is_beyond_at clause.now key (values_of (option_copied point.entry))) (values_at_key clause.now frame key (values_of (option_copied point.entry)) key)) }
 {
     match point {
-        Some(point) => evaluate(alloc, clause, picks, point),
+        Some(point) => evaluate(alloc, clause, picks, point, matchers),
         None => Ok(Evaluation::Absent),
     }
 }

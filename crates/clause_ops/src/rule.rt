@@ -11,6 +11,7 @@ use data_model::steps::Steps;
 use data_set_trees::{DataSetNode, DataSetOperator, SharedOperator};
 use held_index::{DeltaRule, Held, Stop, Want};
 use point_sets::Delta;
+use scalar_eval::Matchers;
 use sqlite_items::Items;
 use std::alloc::{AllocError, Global};
 use std::marker::Model;
@@ -117,6 +118,7 @@ impl DeltaRule for ClauseRule {
     ) -> Result<Delta, Stop> {
         let clause = clause_of(self.operator.get());
         let (components, picks) = (self.operand.components(), self.picks.as_slice());
-        noted(alloc, clause, components, picks, &news[0])?.finish(alloc, before)
+        let mut matchers = Matchers::new(alloc);
+        noted(alloc, clause, components, picks, &news[0], &mut matchers)?.finish(alloc, before)
     }
 }

@@ -3,7 +3,7 @@ use crate::columns::Point;
 use anyhow::{Result, bail};
 use component_typing::check_expr;
 use operator_typing::scope_of;
-use scalar_eval::{EvalStop, PointRow, eval};
+use scalar_eval::{EvalStop, Matchers, PointRow, eval};
 use scalar_trees::CheckedExpr;
 use std::alloc::Global;
 use typing_rules::{Basis, Refusal, TypeStop};
@@ -63,7 +63,7 @@ fn valued(alloc: Global, tree: &CheckedExpr, kind: Kind, point: &Point) -> Resul
         key: &[],
         rest: point.values.as_slice(),
     };
-    match eval(alloc, tree, &row) {
+    match eval(alloc, tree, &row, &mut Matchers::new(alloc)) {
         Ok(value) => shown(alloc, kind, &value),
         Err(EvalStop::Range) => Ok(String::from_str(alloc, "Range")?),
         Err(EvalStop::Memory) => bail!("out of memory"),

@@ -15,7 +15,7 @@ use clause_eval::Evaluation;
 use clause_trees::CheckedMeasure;
 use data_set_trees::{DataSetOperator, SharedOperator};
 use point_sets::{Key, Point};
-use scalar_eval::EvalStop;
+use scalar_eval::{EvalStop, Matchers};
 use sqlite_items::Items;
 use std::alloc::{AllocError, Global};
 use std::marker::Model;
@@ -137,32 +137,35 @@ impl PairPlan {
     }
 
     /// What the operator makes, at this key of the result, of the points that the operands have there.
-    pub fn evaluate(
-        &self,
+    pub fn evaluate<'a>(
+        &'a self,
         alloc: Global,
         key: &Key,
         left: Option<&Arc<Point>>,
         right: Option<&Arc<Point>>,
+        matchers: &mut Matchers<'a>,
     ) -> Result<Evaluation, AllocError>
         ensures { IfOk result (IsMade self.now key.now (option_copied left.entry) (option_copied right.entry)) }
     {
         match (left, right) {
-            (Some(left), Some(right)) => self.evaluate_both(alloc, key, left, right),
+            (Some(left), Some(right)) => self.evaluate_both(alloc, key, left, right, matchers),
             _ => Ok(Evaluation::Absent),
         }
     }
 
     /// What the operator makes of two points: the measures, and then the viral attributes.
-    fn evaluate_both(
-        &self,
+    fn evaluate_both<'a>(
+        &'a self,
         alloc: Global,
         key: &Key,
         left: &Point,
         right: &Point,
+        matchers: &mut Matchers<'a>,
     ) -> Result<Evaluation, AllocError>
         ensures { IfOk result (IsEvaluation key.now (is_none (meant.pair_values self.now (left.now.key ++ left.now.rest) (right.now.key ++ right.now.rest))) (meant.pair_values self.now (left.now.key ++ left.now.rest) (right.now.key ++ right.now.rest))) }
     {
-        match measure_values(alloc, measures_of(self.operator.get()), left, right) {
+        let measures = measures_of(self.operator.get());
+        match measure_values(alloc, measures, left, right, matchers) {
             Ok(mut values) => {
                 push_virals(&mut values, self.virals.as_slice(), left, right)?;
                 made(alloc, key, values)

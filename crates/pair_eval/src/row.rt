@@ -7,7 +7,7 @@ ghost use Rattle.clause_meaning.specs.Clauses.{worked_values};
 
 use clause_trees::CheckedMeasure;
 use point_sets::Point;
-use scalar_eval::{EvalStop, Row, eval};
+use scalar_eval::{EvalStop, Matchers, Row, eval};
 use sqlite_items::Items;
 use std::alloc::Global;
 use vtl_syntax::words::AggregateFunction;
@@ -68,18 +68,19 @@ impl Row for PairRow<'_> {
 }
 
 /// The values of measures that are worked out on two points.
-pub(crate) fn measure_values(
+pub(crate) fn measure_values<'a>(
     alloc: Global,
-    measures: &[CheckedMeasure],
+    measures: &'a [CheckedMeasure],
     left: &Point,
     right: &Point,
+    matchers: &mut Matchers<'a>,
 ) -> Result<Items<Value>, EvalStop>
     ensures { IsMeant (worked_values (point_row (left.now.key ++ left.now.rest) (right.now.key ++ right.now.rest)) measures.now) result }
 {
     let row = PairRow { left, right };
     let mut values = Items::new(alloc);
     for measure in measures {
-        values.push(eval(alloc, &measure.value, &row)?)?;
+        values.push(eval(alloc, &measure.value, &row, matchers)?)?;
     }
     Ok(values)
 }

@@ -18,6 +18,7 @@ use data_model::steps::Steps;
 use held_index::{Draft, Held};
 use pair_eval::{PairPlan, Side};
 use point_sets::{Change, Delta, Key, Point};
+use scalar_eval::Matchers;
 use sqlite_items::Items;
 use std::alloc::{AllocError, Global};
 use std::sync::Arc;
@@ -32,13 +33,14 @@ struct Turn<'a> {
 
 /// Notes what the changes of the main operand make of the result; the other operand is held whole, and has news too.
 /// Each change takes one look.
-pub fn note_main<L: Ledger>(
+pub fn note_main<'a, L: Ledger>(
     alloc: Global,
-    plan: &PairPlan,
+    plan: &'a PairPlan,
     news: &Delta,
     partner: &Held,
     partner_news: &Delta,
     draft: &mut Draft,
+    matchers: &mut Matchers<'a>,
     steps: &mut Steps<L>,
 ) -> Result<(), AllocError>
     requires { IsPlain partner.now.want }
@@ -47,18 +49,28 @@ pub fn note_main<L: Ledger>(
     ensures steps { steps.new ≤ steps.old + 2 * finmap.len news.now }
 {
     for change in news.changes() {
-        note_main_change(alloc, plan, change, partner, partner_news, draft, steps)?;
+        note_main_change(
+            alloc,
+            plan,
+            change,
+            partner,
+            partner_news,
+            draft,
+            matchers,
+            steps,
+        )?;
     }
     Ok(())
 }
 
-fn note_main_change<L: Ledger>(
+fn note_main_change<'a, L: Ledger>(
     alloc: Global,
-    plan: &PairPlan,
+    plan: &'a PairPlan,
     change: &Change,
     partner: &Held,
     partner_news: &Delta,
     draft: &mut Draft,
+    matchers: &mut Matchers<'a>,
     steps: &mut Steps<L>,
 ) -> Result<(), AllocError>
     requires change { IsChange change.now }
@@ -73,7 +85,15 @@ fn note_main_change<L: Ledger>(
         old: before,
         new: after,
     };
-    note_met(alloc, plan, &change.key, turn_of(change), partner, draft)
+    note_met(
+        alloc,
+        plan,
+        &change.key,
+        turn_of(change),
+        partner,
+        draft,
+        matchers,
+    )
 }
 
 /// A place to look a key up.
@@ -88,31 +108,33 @@ fn place_at(alloc: Global, key: Key) -> Point
 
 /// Notes what the changes of the other operand make of the result; the main operand is held in parts, and has news too.
 /// Each change takes a look for each point that it meets, and one to count them.
-pub fn note_partner<L: Ledger>(
+pub fn note_partner<'a, L: Ledger>(
     alloc: Global,
-    plan: &PairPlan,
+    plan: &'a PairPlan,
     news: &Delta,
     main: &Held,
     main_news: &Delta,
     draft: &mut Draft,
+    matchers: &mut Matchers<'a>,
     steps: &mut Steps<L>,
 ) -> Result<(), AllocError>
     ensures noted { OnOk result (draft.new ≡ fold (noted_partner plan.now main.now main_news.now) draft.old (finmap.entries news.now)) }
     ensures steps { steps.new ≤ steps.old + walk_steps main.now (finmap.keys news.now) }
 {
     for change in news.changes() {
-        note_partner_change(alloc, plan, change, main, main_news, draft, steps)?;
+        note_partner_change(alloc, plan, change, main, main_news, draft, matchers, steps)?;
     }
     Ok(())
 }
 
-fn note_partner_change<L: Ledger>(
+fn note_partner_change<'a, L: Ledger>(
     alloc: Global,
-    plan: &PairPlan,
+    plan: &'a PairPlan,
     change: &Change,
     main: &Held,
     main_news: &Delta,
     draft: &mut Draft,
+    matchers: &mut Matchers<'a>,
     steps: &mut Steps<L>,
 ) -> Result<(), AllocError>
     requires { IsChange change.now }
@@ -124,19 +146,20 @@ fn note_partner_change<L: Ledger>(
         let Some(point) = main.nth_in(&change.key, n, steps) else {
             unreachable!()
         };
-        note_point(alloc, plan, change, point, main_news, draft)?;
+        note_point(alloc, plan, change, point, main_news, draft, matchers)?;
     }
     Ok(())
 }
 
 /// Notes what a change of the other operand makes of a point of the main one.
-fn note_point(
+fn note_point<'a>(
     alloc: Global,
-    plan: &PairPlan,
+    plan: &'a PairPlan,
     change: &Change,
     point: &Arc<Point>,
     main_news: &Delta,
     draft: &mut Draft,
+    matchers: &mut Matchers<'a>,
 ) -> Result<(), AllocError>
     requires { IsChange change.now }
     ensures { OnOk result (draft.new ≡ noted_point plan.now main_news.now (change_entry change.now) draft.old (entry_of point.now)) }
@@ -146,7 +169,15 @@ fn note_point(
         old: Some(point),
         new: after,
     };
-    note_met(alloc, plan, &point.key, main, turn_of(change), draft)
+    note_met(
+        alloc,
+        plan,
+        &point.key,
+        main,
+        turn_of(change),
+        draft,
+        matchers,
+    )
 }
 
 /// The points of a change.
@@ -161,35 +192,37 @@ fn turn_of(change: &Change) -> Turn<'_>
 }
 
 /// Notes what was made of the points at a key of the main operand, and what is.
-fn note_met(
+fn note_met<'a>(
     alloc: Global,
-    plan: &PairPlan,
+    plan: &'a PairPlan,
     key: &Key,
     main: Turn<'_>,
     partner: Turn<'_>,
     draft: &mut Draft,
+    matchers: &mut Matchers<'a>,
 ) -> Result<(), AllocError>
     ensures { OnOk result (draft.new ≡ noted_met plan.now (meant.result_key plan.now key.now) (in_turn plan.now (all_values (option_copied main.entry.old)) (all_values (option_copied partner.entry.old))) (in_turn plan.now (all_values (option_copied main.entry.new)) (all_values (option_copied partner.entry.new))) draft.old) }
 {
     let key = plan.result_key(alloc, key)?;
-    let old = evaluate(alloc, plan, &key, main.old, partner.old)?;
-    let new = evaluate(alloc, plan, &key, main.new, partner.new)?;
+    let old = evaluate(alloc, plan, &key, main.old, partner.old, matchers)?;
+    let new = evaluate(alloc, plan, &key, main.new, partner.new, matchers)?;
     note(&key, old, new, draft)
 }
 
 /// What is made, at a key of the result, of a point of the main operand and one of the other.
-fn evaluate(
+fn evaluate<'a>(
     alloc: Global,
-    plan: &PairPlan,
+    plan: &'a PairPlan,
     key: &Key,
     main: Option<&Arc<Point>>,
     partner: Option<&Arc<Point>>,
+    matchers: &mut Matchers<'a>,
 ) -> Result<Evaluation, AllocError>
     ensures { IfOk result (IsEvaluation key.now (is_beyond plan.now (in_turn plan.now (all_values (option_copied main.entry)) (all_values (option_copied partner.entry)))) (value_of plan.now (in_turn plan.now (all_values (option_copied main.entry)) (all_values (option_copied partner.entry))))) }
 {
     match plan.main() {
-        Side::Left => plan.evaluate(alloc, key, main, partner),
-        Side::Right => plan.evaluate(alloc, key, partner, main),
+        Side::Left => plan.evaluate(alloc, key, main, partner, matchers),
+        Side::Right => plan.evaluate(alloc, key, partner, main, matchers),
     }
 }
 

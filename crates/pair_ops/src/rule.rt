@@ -8,6 +8,7 @@ use data_set_trees::{DataSetNode, SharedOperator};
 use held_index::{DeltaRule, Draft, Held, Stop, Want};
 use pair_eval::{PairPlan, Side};
 use point_sets::Delta;
+use scalar_eval::Matchers;
 use sqlite_items::Items;
 use std::alloc::{AllocError, Global};
 use std::marker::Model;
@@ -143,8 +144,27 @@ impl DeltaRule for PairRule {
         let (own, other) = (&news[main], &news[partner]);
         let (parts, whole) = (&held[main], &held[partner]);
         let mut draft = Draft::new(alloc);
-        note_main(alloc, plan, own, whole, other, &mut draft, steps)?;
-        note_partner(alloc, plan, other, parts, own, &mut draft, steps)?;
+        let mut matchers = Matchers::new(alloc);
+        note_main(
+            alloc,
+            plan,
+            own,
+            whole,
+            other,
+            &mut draft,
+            &mut matchers,
+            steps,
+        )?;
+        note_partner(
+            alloc,
+            plan,
+            other,
+            parts,
+            own,
+            &mut draft,
+            &mut matchers,
+            steps,
+        )?;
         draft.finish(alloc, before)
     }
 }

@@ -10,6 +10,7 @@ ghost use Rattle.scalar_eval.specs.Stops.{IsMeant};
 
 use crate::comparisons::{between, membership};
 use crate::logic::holds;
+use crate::matchers::Matchers;
 use crate::numbers::{rounded, widened};
 use crate::operators::{binary, unary};
 use crate::row::Row;
@@ -20,38 +21,48 @@ use sqlite_items::Boxed;
 use std::alloc::{AllocError, Global};
 use vtl_values::Value;
 
-/// The value of an expression on a row.
+/// The value of an expression on a row. The matchers of its patterns are kept for its other rows.
 ///
 /// `Range` is told exactly where a part of it that counts is out of range; want of memory may be told of any. A well typed
 /// expression meets no value of another kind, and what it gives is null, or of its kind and within its range.
-pub fn eval<R: Row>(alloc: Global, expr: &CheckedExpr, row: &R) -> Result<Value, EvalStop>
+pub fn eval<'a, R: Row>(
+    alloc: Global,
+    expr: &'a CheckedExpr,
+    row: &R,
+    matchers: &mut Matchers<'a>,
+) -> Result<Value, EvalStop>
     ensures meant { IsMeant (meaning (R.values row.now) expr.now) result }
     ensures kept { (kinds : Kinds) (kind : Kind) → is_of_kind kinds expr.now kind ≡ true → IsRowOf kinds (R.values row.now) → IfOk result (Fits kind) }
 {
-    value_of(alloc, expr, row)
+    value_of(alloc, expr, row, matchers)
 }
 
 /// The value of an expression on a row, part by part.
 #[cycle(values)]
-fn value_of<R: Row>(alloc: Global, expr: &CheckedExpr, row: &R) -> Result<Value, EvalStop>
+fn value_of<'a, R: Row>(
+    alloc: Global,
+    expr: &'a CheckedExpr,
+    row: &R,
+    matchers: &mut Matchers<'a>,
+) -> Result<Value, EvalStop>
     ensures { IsMeant (meaning (R.values row.now) expr.now) result }
 {
     match expr {
         CheckedExpr::Literal(value) => Ok(value.copy()?),
         CheckedExpr::Component(number) => Ok(component(row, *number)?),
-        CheckedExpr::Widened(_) => of_operand(alloc, expr, row),
-        CheckedExpr::Unary { .. } => of_operand(alloc, expr, row),
+        CheckedExpr::Widened(_) => of_operand(alloc, expr, row, matchers),
+        CheckedExpr::Unary { .. } => of_operand(alloc, expr, row, matchers),
         CheckedExpr::Binary {
             operator,
             left,
             right,
         } => {
-            let left = value_of(alloc, left.get(), row)?;
-            let right = value_of(alloc, right.get(), row)?;
+            let left = value_of(alloc, left.get(), row, matchers)?;
+            let right = value_of(alloc, right.get(), row, matchers)?;
             binary(alloc, *operator, &left, &right)
         }
-        CheckedExpr::Nvl { first, second } => match value_of(alloc, first.get(), row)? {
-            Value::Null => value_of(alloc, second.get(), row),
+        CheckedExpr::Nvl { first, second } => match value_of(alloc, first.get(), row, matchers)? {
+            Value::Null => value_of(alloc, second.get(), row, matchers),
             value => Ok(value),
         },
         CheckedExpr::If {
@@ -59,19 +70,19 @@ fn value_of<R: Row>(alloc: Global, expr: &CheckedExpr, row: &R) -> Result<Value,
             holds: chosen,
             fails,
         } => {
-            if holds(&value_of(alloc, condition.get(), row)?) {
-                value_of(alloc, chosen.get(), row)
+            if holds(&value_of(alloc, condition.get(), row, matchers)?) {
+                value_of(alloc, chosen.get(), row, matchers)
             } else {
-                value_of(alloc, fails.get(), row)
+                value_of(alloc, fails.get(), row, matchers)
             }
         }
-        CheckedExpr::In { .. } => of_operand(alloc, expr, row),
-        CheckedExpr::Between { .. } => of_operand(alloc, expr, row),
-        CheckedExpr::Round { .. } => of_operand(alloc, expr, row),
-        CheckedExpr::Substr { .. } => of_text(alloc, expr, row),
-        CheckedExpr::Replace { .. } => of_text(alloc, expr, row),
-        CheckedExpr::Matches { .. } => of_operand(alloc, expr, row),
-        CheckedExpr::OfSort { operand, .. } => value_of(alloc, operand.get(), row),
+        CheckedExpr::In { .. } => of_operand(alloc, expr, row, matchers),
+        CheckedExpr::Between { .. } => of_operand(alloc, expr, row, matchers),
+        CheckedExpr::Round { .. } => of_operand(alloc, expr, row, matchers),
+        CheckedExpr::Substr { .. } => of_text(alloc, expr, row, matchers),
+        CheckedExpr::Replace { .. } => of_text(alloc, expr, row, matchers),
+        CheckedExpr::Matches { .. } => of_operand(alloc, expr, row, matchers),
+        CheckedExpr::OfSort { operand, .. } => value_of(alloc, operand.get(), row, matchers),
         CheckedExpr::Aggregate {
             function,
             component,
@@ -82,22 +93,32 @@ fn value_of<R: Row>(alloc: Global, expr: &CheckedExpr, row: &R) -> Result<Value,
 
 /// The value of an expression with one operand.
 #[cycle(values)]
-fn of_operand<R: Row>(alloc: Global, expr: &CheckedExpr, row: &R) -> Result<Value, EvalStop>
+fn of_operand<'a, R: Row>(
+    alloc: Global,
+    expr: &'a CheckedExpr,
+    row: &R,
+    matchers: &mut Matchers<'a>,
+) -> Result<Value, EvalStop>
     requires { shape_of expr.now ≡ one_operand }
     ensures { IsMeant (meaning (R.values row.now) expr.now) result }
 {
     match expr {
-        CheckedExpr::Widened(operand) => Ok(widened(value_of(alloc, operand.get(), row)?)),
+        CheckedExpr::Widened(operand) => Ok(widened(value_of(
+            alloc,
+            operand.get(),
+            row,
+            matchers,
+        )?)),
         CheckedExpr::Unary { operator, operand } => {
-            let value = value_of(alloc, operand.get(), row)?;
+            let value = value_of(alloc, operand.get(), row, matchers)?;
             unary(alloc, *operator, &value)
         }
         CheckedExpr::In { operand, sign, set } => {
-            let value = value_of(alloc, operand.get(), row)?;
+            let value = value_of(alloc, operand.get(), row, matchers)?;
             Ok(membership(*sign, set.as_slice(), &value))
         }
         CheckedExpr::Between { operand, low, high } => {
-            let value = value_of(alloc, operand.get(), row)?;
+            let value = value_of(alloc, operand.get(), row, matchers)?;
             Ok(between(&value, low, high))
         }
         CheckedExpr::Round {
@@ -105,12 +126,12 @@ fn of_operand<R: Row>(alloc: Global, expr: &CheckedExpr, row: &R) -> Result<Valu
             operand,
             digits,
         } => {
-            let value = value_of(alloc, operand.get(), row)?;
+            let value = value_of(alloc, operand.get(), row, matchers)?;
             Ok(rounded(*function, digits, &value))
         }
         CheckedExpr::Matches { operand, pattern } => {
-            let value = value_of(alloc, operand.get(), row)?;
-            Ok(matching(pattern, &value)?)
+            let value = value_of(alloc, operand.get(), row, matchers)?;
+            Ok(matching(matchers, pattern, &value)?)
         }
         _ => unreachable!(),
     }
@@ -118,7 +139,12 @@ fn of_operand<R: Row>(alloc: Global, expr: &CheckedExpr, row: &R) -> Result<Valu
 
 /// The value of an expression that makes a text of operands, of which some may be left out.
 #[cycle(values)]
-fn of_text<R: Row>(alloc: Global, expr: &CheckedExpr, row: &R) -> Result<Value, EvalStop>
+fn of_text<'a, R: Row>(
+    alloc: Global,
+    expr: &'a CheckedExpr,
+    row: &R,
+    matchers: &mut Matchers<'a>,
+) -> Result<Value, EvalStop>
     requires { shape_of expr.now ≡ on_texts }
     ensures { IsMeant (meaning (R.values row.now) expr.now) result }
 {
@@ -128,9 +154,9 @@ fn of_text<R: Row>(alloc: Global, expr: &CheckedExpr, row: &R) -> Result<Value, 
             start,
             length,
         } => {
-            let value = value_of(alloc, operand.get(), row)?;
-            let start = given(alloc, start, row)?;
-            let count = given(alloc, length, row)?;
+            let value = value_of(alloc, operand.get(), row, matchers)?;
+            let start = given(alloc, start, row, matchers)?;
+            let count = given(alloc, length, row, matchers)?;
             Ok(part_of(alloc, &value, &start, &count)?)
         }
         CheckedExpr::Replace {
@@ -138,9 +164,9 @@ fn of_text<R: Row>(alloc: Global, expr: &CheckedExpr, row: &R) -> Result<Value, 
             pattern,
             by,
         } => {
-            let value = value_of(alloc, operand.get(), row)?;
-            let old = value_of(alloc, pattern.get(), row)?;
-            let new = given(alloc, by, row)?;
+            let value = value_of(alloc, operand.get(), row, matchers)?;
+            let old = value_of(alloc, pattern.get(), row, matchers)?;
+            let new = given(alloc, by, row, matchers)?;
             Ok(replacing(alloc, &value, &old, &new)?)
         }
         _ => unreachable!(),
@@ -149,15 +175,16 @@ fn of_text<R: Row>(alloc: Global, expr: &CheckedExpr, row: &R) -> Result<Value, 
 
 /// The value of an operand that may be left out.
 #[cycle(values)]
-fn given<R: Row>(
+fn given<'a, R: Row>(
     alloc: Global,
-    operand: &Option<Boxed<CheckedExpr>>,
+    operand: &'a Option<Boxed<CheckedExpr>>,
     row: &R,
+    matchers: &mut Matchers<'a>,
 ) -> Result<Option<Value>, EvalStop>
     ensures { IsMeant (if_given (option_map (meaning (R.values row.now)) operand.now)) result }
 {
     match operand {
-        Some(operand) => Ok(Some(value_of(alloc, operand.get(), row)?)),
+        Some(operand) => Ok(Some(value_of(alloc, operand.get(), row, matchers)?)),
         None => Ok(None),
     }
 }

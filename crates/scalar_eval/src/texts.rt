@@ -6,6 +6,7 @@ ghost use Rattle.scalar_texts.specs.Letters.{uppercase, lowercase};
 ghost use Rattle.vtl_values.specs.declared.value.Value.TheVariants.{Text as TextOf};
 ghost use Rattle.scalar_meaning.specs.Texts as meant;
 
+use crate::matchers::Matchers;
 use crate::numbers::integer_of;
 use scalar_texts::{concat, instr, length, replace, substr};
 use scalar_trees::SharedPattern;
@@ -165,11 +166,15 @@ pub(crate) fn replacing(
 }
 
 /// `match_characters` of VTL.
-pub(crate) fn matching(pattern: &SharedPattern, value: &Value) -> Result<Value, AllocError>
+pub(crate) fn matching<'a>(
+    matchers: &mut Matchers<'a>,
+    pattern: &'a SharedPattern,
+    value: &Value,
+) -> Result<Value, AllocError>
     ensures { IfOk result (λ v. v ≡ meant.matching pattern.now value.now) }
 {
     match value {
-        Value::Text(word) => Ok(Value::Truth(pattern.get().matches(word.as_str())?)),
+        Value::Text(word) => Ok(Value::Truth(matchers.matches(pattern, word.as_str())?)),
         _ => Ok(Value::Null),
     }
 }

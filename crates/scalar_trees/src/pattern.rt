@@ -8,10 +8,27 @@ use std::marker::Model;
 use std::sync::Arc;
 use vtl_values::Word;
 
+/// A built pattern with the text that it was built from.
+#[derive(Drop)]
+struct Built {
+    text: Word,
+    pattern: Pattern,
+}
+
+impl Model for Built {
+    ghost use Rattle.std.specs.Prelude.{◌≡◌, List, ℕ};
+
+    ghost Value = { List ℕ };
+
+    ghost view = { λ b. b.text };
+
+    ghost invariant = { λ b. b.pattern ≡ b.text };
+}
+
 /// A built pattern of `match_characters`, which copies share. Contracts see the characters of its text.
 #[derive(Drop)]
 pub struct SharedPattern {
-    pattern: Arc<Pattern>,
+    built: Arc<Built>,
 }
 
 impl Model for SharedPattern {
@@ -20,7 +37,7 @@ impl Model for SharedPattern {
 
     ghost Value = { List ℕ };
 
-    ghost view = { λ s. arc_value s.pattern };
+    ghost view = { λ s. arc_value s.built };
 }
 
 impl SharedPattern {
@@ -31,14 +48,19 @@ impl SharedPattern {
         ensures bad { IsErrOf result PatternStop.BadPattern → is_pattern text.now ≡ false }
     {
         let pattern = Pattern::build(alloc, text.as_str())?;
-        Ok(SharedPattern::of(alloc, pattern)?)
+        Ok(SharedPattern::of(alloc, pattern, text)?)
     }
 
-    fn of(alloc: Global, pattern: Pattern) -> Result<SharedPattern, AllocError>
-        ensures { IfOk result (λ p. p ≡ pattern) }
+    fn of(alloc: Global, pattern: Pattern, text: &Word) -> Result<SharedPattern, AllocError>
+        requires { pattern ≡ text.now }
+        ensures { IfOk result (λ p. p ≡ text.now) }
     {
+        let built = Built {
+            text: text.copy()?,
+            pattern,
+        };
         Ok(SharedPattern {
-            pattern: Arc::new(alloc, pattern)?,
+            built: Arc::new(alloc, built)?,
         })
     }
 
@@ -46,7 +68,14 @@ impl SharedPattern {
     pub fn get(&self) -> &Pattern
         ensures { result.now ≡ self.now }
     {
-        &self.pattern
+        &self.built.pattern
+    }
+
+    /// The text of the pattern, by which equal patterns are found.
+    pub fn text(&self) -> &Word
+        ensures { result.now ≡ self.now }
+    {
+        &self.built.text
     }
 
     /// The same pattern, which isn't built again, or want of memory.
@@ -54,7 +83,7 @@ impl SharedPattern {
         ensures { IfOk result (λ p. p ≡ self.now) }
     {
         Ok(SharedPattern {
-            pattern: self.pattern.clone()?,
+            built: self.built.clone()?,
         })
     }
 }
