@@ -1,12 +1,20 @@
 -- Which scripts are built (docs/language.md, "What runs").
-use Rattle.std.specs.Prelude.{Bool, true, ◌&&◌, ⊤}
+use Rattle.std.specs.Prelude.{◌≡◌, Bool, true, false, ◌&&◌, ⊤}
 use Rattle.std.specs.List.{All, list_all}
 use Rattle.vtl_values.specs.Structures.{IsStructure}
+use Rattle.vtl_syntax.specs.declared.words.JoinFunction.TheVariants.{Inner, Cross}
+use Rattle.data_set_trees.specs.declared.tree.DataSetOperator.{DataSetOperator}
+use Rattle.data_set_trees.specs.declared.tree.DataSetOperator.TheVariants.{Join}
 use Rattle.data_set_trees.specs.declared.tree.DataSetTree.{DataSetTree}
 use Rattle.checked_trees.specs.declared.script.CheckedStatement.{CheckedStatement}
-use Rattle.checked_trees.specs.Operators.{is_built}
 use Rattle.checked_trees.specs.Expressions.{Expression, Expressions, Named, Applied, none, more, expression_of}
-use Rattle.checked_trees.specs.Scripts.{Script}
+use Rattle.checked_trees.specs.Scripts.{Script, IsChecked}
+
+-- Inner and cross joins aren't built yet, and all other operators are.
+abbrev pub is_built : DataSetOperator → Bool
+is_built (Join Inner) = false
+is_built (Join Cross) = false
+is_built _ = true
 
 abbrev mutual
   -- all operators of an expression are built
@@ -27,6 +35,11 @@ is_statement_built statement = is_tree_built statement.tree
 -- all operators of a script are built
 abbrev pub is_script_built : Script → Bool
 is_script_built s = list_all is_statement_built s.statements
+
+-- all operators of a script are well typed, and built: it may be run
+pub record IsRunnable (s : Script) : Type 0 where
+  pub checked : IsChecked s
+  pub built : is_script_built s ≡ true
 
 abbrev mutual
   -- the operands and the results of its operators have structures

@@ -1,10 +1,13 @@
 //! Which typed scripts may be run: those all of whose operators are built.
 //!
-//! It stands on `checked_trees`, which says which operators are built: all but inner and cross joins. `runnable` gives the script exactly
-//! where all its operators are built. It goes over each tree once. This crate goes when joins are built.
+//! It stands on `checked_trees`, and says which operators are built: all but inner and cross joins. `runnable` gives the
+//! script exactly where all its operators are built, as a `CheckedScript`, which keeps that they are. It goes over each
+//! tree once.
 #![tactic(auto)]
 
 mod operators;
+pub mod script;
 mod scripts;
 
+pub use script::CheckedScript;
 pub use scripts::runnable;

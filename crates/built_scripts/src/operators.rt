@@ -2,7 +2,7 @@
 ghost use Rattle.std.specs.Prelude.{◌≡◌};
 ghost use Rattle.std.specs.List.{All};
 ghost use Rattle.vtl_values.specs.Structures.{IsStructure};
-ghost use Rattle.checked_trees.specs.Operators as operators;
+ghost use Rattle.built_scripts.specs.Built as built;
 
 use data_set_trees::DataSetOperator;
 use vtl_syntax::words::JoinFunction;
@@ -10,7 +10,7 @@ use vtl_values::Structure;
 
 /// Whether an operator is built.
 pub(crate) fn is_built(operator: &DataSetOperator) -> bool
-    ensures { result ≡ operators.is_built operator.now }
+    ensures { result ≡ built.is_built operator.now }
 {
     match operator {
         DataSetOperator::Join(JoinFunction::Inner | JoinFunction::Cross) => false,

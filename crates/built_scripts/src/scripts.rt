@@ -5,7 +5,8 @@ ghost use Rattle.checked_trees.specs.Expressions.{expression_of_node};
 ghost use Rattle.built_scripts.specs.Built.{all_built, is_script_built, is_statement_built, is_tree_built, AreStructured, IsStatementStructured, IsTreeStructured};
 
 use crate::operators::{have_structures, is_built};
-use checked_trees::{CheckedScript, CheckedStatement, TypedScript};
+use crate::script::CheckedScript;
+use checked_trees::{CheckedStatement, TypedScript};
 use data_set_trees::{DataSetNode, DataSetTree};
 
 /// Whether all operators of a tree are built.
@@ -59,7 +60,7 @@ pub fn runnable(script: TypedScript) -> Option<CheckedScript>
     ensures { result ≡ (if is_script_built script then Some script else None) }
 {
     if are_statements_built(script.statements()) {
-        Some(script.into_checked())
+        Some(CheckedScript::of(script))
     } else {
         None
     }

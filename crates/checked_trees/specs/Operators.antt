@@ -1,5 +1,5 @@
 -- Operators, and where they are well typed (docs/language.md, "Clauses", "Structures of results").
-use Rattle.std.specs.Prelude.{◌≡◌, ◌++◌, Bool, true, false, List, [], ◌∷◌, map, Option, refl}
+use Rattle.std.specs.Prelude.{◌≡◌, ◌++◌, Bool, true, List, [], ◌∷◌, map, Option, refl}
 use Rattle.std.specs.Coded.{Coded, code_by, coded×, coded_list}
 use Rattle.std.specs.List.{All, list_all}
 use Rattle.vtl_values.specs.declared.structure.Component.{Component}
@@ -20,7 +20,6 @@ use Rattle.data_set_trees.specs.declared.tree.DataSetOperator.{DataSetOperator}
 use Rattle.data_set_trees.specs.declared.tree.DataSetOperator.TheVariants.{Clause, Pair, Choice, ExistsIn, Set, Join, InJoin}
 use Rattle.data_set_trees.specs.Components.{unlisted, virals_agree, are_alike}
 use Rattle.vtl_syntax.specs.declared.words.JoinFunction.{JoinFunction}
-use Rattle.vtl_syntax.specs.declared.words.JoinFunction.TheVariants.{Inner, Cross}
 use Rattle.data_set_trees.specs.Exists.{common_agree, exists_structure}
 use Rattle.data_set_trees.specs.Joins.{may_join, join_components}
 use Rattle.data_set_trees.specs.Pairs.{identifiers_agree, joined}
@@ -129,15 +128,8 @@ TakesOperands o = by_operator o.operator
     by_operator (Join f) = IsTypedJoin f o.operands o.structure
     by_operator (InJoin clause) = IsTypedInJoin clause o.operands o.structure
 
--- Inner and cross joins aren't built yet, and all other operators are.
-abbrev pub is_built : DataSetOperator → Bool
-is_built (Join Inner) = false
-is_built (Join Cross) = false
-is_built _ = true
-
--- its operands and its result are data sets of structures, which it takes and gives, and it is built: it may be run
+-- its operands and its result are data sets of structures, which it takes and gives
 pub record IsTyped (o : Operator) : Type 0 where
   pub structures : All IsStructure o.operands
   pub result : IsStructure o.structure
   pub takes : TakesOperands o
-  pub built : is_built o.operator ≡ true

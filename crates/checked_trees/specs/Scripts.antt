@@ -93,11 +93,11 @@ pub record IsScriptOf (fit : Operator → Type 0) (s : Script) : Type 0 where
   pub typed : All (FitsStatement fit s) s.statements
   pub ordered : IsOrder s
 
--- the structures of a script's statements are worked out, and its operators are well typed, whether they are built or not
+-- the structures of a script's statements are worked out, and its operators are well typed
 abbrev pub IsTypedScript : Script → Type 0
 IsTypedScript = IsScriptOf TakesOperands
 
--- all operators of a script are well typed, and built: it may be run
+-- all operators of a script are well typed, and on structures
 abbrev pub IsChecked : Script → Type 0
 IsChecked = IsScriptOf IsTyped
 

@@ -1,11 +1,10 @@
-//! Scripts whose structures are worked out, and those that may be run.
+//! Scripts whose structures are worked out.
 //!
 //! It stands on the trees of `data_set_trees`. A statement's tree is seen as an expression: names, and operators with
-//! the structures of their operands and of their result. Both kinds of script keep that their trees have the structures
-//! that their statements have, and an order in which operands come first. In a `TypedScript` all operators are well typed,
-//! and in a `CheckedScript` they are built too.
+//! the structures of their operands and of their result. A `TypedScript` keeps that its operators are well typed, that
+//! its trees have the structures that its statements have, and an order in which operands come first.
 #![tactic(auto)]
 
 pub mod script;
 
-pub use script::{CheckedScript, CheckedStatement, TypedScript};
+pub use script::{CheckedStatement, TypedScript};

@@ -12,8 +12,8 @@ use crate::script::typed_script;
 use crate::stop::Stop;
 use crate::structures::structures_in;
 use crate::words::not_built;
-use built_scripts::runnable;
-use checked_trees::{CheckedScript, TypedScript};
+use built_scripts::{CheckedScript, runnable};
+use checked_trees::TypedScript;
 use point_sets::Revision;
 use std::alloc::Global;
 

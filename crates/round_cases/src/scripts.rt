@@ -3,8 +3,8 @@ ghost use Rattle.std.specs.Prelude.{◌≡◌, ◌≤◌, IfOk};
 ghost use Rattle.round_cases.specs.Limits.{AreAllowed};
 
 use anyhow::{Result, bail};
-use built_scripts::runnable;
-use checked_trees::CheckedScript;
+use built_scripts::{CheckedScript, runnable};
+use checked_trees::TypedScript;
 use commands::script::typed_script;
 use round_core::{ENTRY_LIMIT, FIELD_LIMIT, Limits, Production, SCRIPT_LIMIT};
 use serde_json::Value as Json;
@@ -14,8 +14,11 @@ use structure_files::read_structures;
 use vtl_values::Structures;
 
 // The script of these inputs that has no statement.
-fn no_statements(alloc: Global, inputs: Structures) -> CheckedScript {
-    CheckedScript::of(inputs, Items::new(alloc), Items::new(alloc))
+fn no_statements(alloc: Global, inputs: Structures) -> Result<CheckedScript> {
+    match runnable(TypedScript::of(inputs, Items::new(alloc), Items::new(alloc))) {
+        Some(script) => Ok(script),
+        None => bail!("no statement is built"),
+    }
 }
 
 // A limit that is at most the program's.
@@ -88,6 +91,6 @@ pub fn of_structures(alloc: Global, structures: Option<&Json>, limits: Limits) -
         bail!("no structures");
     };
     let text = json.to_string(alloc)?;
-    let script = no_statements(alloc, structures_of(alloc, text.as_str())?);
+    let script = no_statements(alloc, structures_of(alloc, text.as_str())?)?;
     Ok(Production::new(alloc, script, limits)?)
 }

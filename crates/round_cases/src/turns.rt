@@ -4,7 +4,7 @@ ghost use Rattle.transform_nodes.specs.Nodes.{CanRun};
 ghost use Rattle.round_journal.specs.Journals.{State};
 ghost use Rattle.round_journal.specs.Stands.{WorkStands, DoneStands};
 
-use checked_trees::CheckedScript;
+use built_scripts::CheckedScript;
 use data_model::steps::Steps;
 use point_sets::Revision;
 use round_core::{ClaimStop, Given, Production, RescriptStop, SubmitStop};

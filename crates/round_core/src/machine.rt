@@ -23,7 +23,7 @@ use crate::limits::{EARLIER_LIMIT, ENTRY_LIMIT, FIELD_LIMIT, Full, Limits, SCRIP
 use crate::moves::{collect_pages, first_pages, first_slots, hand_on, prepare};
 use crate::slot::{Slot, Stage};
 use crate::stops::{Given, NoRelease, OpenStop};
-use checked_trees::CheckedScript;
+use built_scripts::CheckedScript;
 use point_sets::{Part, Revision};
 use release_text::{Pages, Release};
 use revision_judge::{Refusal, Ruling, Share, judge};

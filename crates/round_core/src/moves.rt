@@ -11,7 +11,8 @@ ghost use Rattle.round_core.specs.Steps.{IsPrepared, IsFirstNews, AreFirstNews, 
 use crate::inputs::InputChange;
 use crate::runs::nothing;
 use crate::slot::{Slot, Stage};
-use checked_trees::{CheckedScript, CheckedStatement};
+use built_scripts::CheckedScript;
+use checked_trees::CheckedStatement;
 use data_set_trees::Source;
 use point_sets::Delta;
 use release_text::Pages;

@@ -15,7 +15,7 @@ use crate::ends::count_out;
 use crate::limits::{ENTRY_LIMIT, FIELD_LIMIT, Limits, SCRIPT_LIMIT};
 use crate::machine::Machine;
 use crate::stops::{ClaimStop, Given, NoRelease, OpenStop, RescriptStop, SubmitStop};
-use checked_trees::CheckedScript;
+use built_scripts::CheckedScript;
 use point_sets::Revision;
 use release_text::Release;
 use round_journal::{Entry, Journal, Verdict, What};

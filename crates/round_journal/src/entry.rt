@@ -1,7 +1,7 @@
 // What a journal lists.
 
 use crate::verdict::{ScriptFault, Verdict};
-use checked_trees::CheckedScript;
+use built_scripts::CheckedScript;
 use point_sets::Revision;
 use sqlite_items::Items;
 use std::sync::Arc;

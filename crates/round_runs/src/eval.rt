@@ -7,7 +7,7 @@ ghost use Rattle.round_runs.specs.Runs.{LIMITS, IsFew, JudgedSo, JudgesNext, Ran
 
 use crate::lines::{fault_line, verdict_line};
 use crate::round::{RoundEnd, run_whole};
-use checked_trees::CheckedScript;
+use built_scripts::CheckedScript;
 use point_sets::Revision;
 use round_core::{ENTRY_LIMIT, FIELD_LIMIT, Limits, Production, SCRIPT_LIMIT, SubmitStop};
 use round_journal::Verdict;

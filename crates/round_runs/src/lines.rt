@@ -9,7 +9,7 @@ ghost use Rattle.round_runs.specs.Eval.{failed_line, name_of, wrong_line};
 ghost use Rattle.round_runs.specs.Lines as meant;
 ghost use Rattle.round_runs.specs.Lines.{key_text, refused, total_points};
 
-use checked_trees::CheckedScript;
+use built_scripts::CheckedScript;
 use point_sets::{Key, RawField};
 use release_text::{values_row, words_row};
 use revision_judge::Refusal;

@@ -5,7 +5,8 @@ use Rattle.std.specs.List.{All, filter, list_all, list_any}
 use Rattle.std.proofs.lemmas.Bool.{cases_Bool, eq-eqb, false≢true}
 use Rattle.std.proofs.lemmas.List.{append_assoc, append-nil, length-map, map-append, take_more}
 use Rattle.std.proofs.lemmas.List.Elements.{All-nil, All-cons, filter-append}
-use Rattle.std.proofs.lemmas.Option.{slice_get_within}
+use Rattle.std.specs.Option.{unwrap_or}
+use Rattle.std.proofs.lemmas.Option.{none-some, slice_get_within}
 use Rattle.vtl_values.specs.declared.structure.Component.{Component}
 use Rattle.vtl_values.specs.declared.value.Value.{Value}
 use Rattle.vtl_values.specs.Order.{key_cmp}
@@ -20,6 +21,9 @@ use Rattle.checked_trees.specs.Operators.{Operator}
 use Rattle.checked_trees.specs.Expressions.{Expression, Expressions, Named, Applied, expression_of, expressions, all_renamed, name_step, node_step, more as operand_and, expression_of_node}
 use Rattle.checked_trees.specs.Scripts.{is_same, names_in, names_in_all, once_each}
 use Rattle.checked_trees.specs.Typing.{HaveStructures}
+use Rattle.checked_trees.specs.declared.script.CheckedStatement.{CheckedStatement}
+use Rattle.typing_rules.proofs.Sound.{left, right}
+use Rattle.built_scripts.specs.Built.{all_built, each_all_built, is_built, is_statement_built}
 use Rattle.operator_meaning.specs.Operators.{meaning_of}
 use Rattle.operator_meaning.specs.Results.{Wrong, Evaluated, sets_of, results_of}
 use Rattle.operator_meaning.proofs.EmptyLemmas.{empties, withouts, sets_of-withouts, meaning_of-empty, results_of-empty}
@@ -159,12 +163,30 @@ named_operands sources (tree ∷ trees) named = All-cons (λ tree. AreAmong sour
     (All-left (λ n. is_among sources n ≡ true) (names_in (expression_of tree)) (names_in_all (expressions (map expression_of trees))) named)
     (named_operands sources trees (All-right (λ n. is_among sources n ≡ true) (names_in (expression_of tree)) (names_in_all (expressions (map expression_of trees))) named))
 
+-- the operands of a tree whose operators are built are such trees
+built_operands : (trees : List DataSetTree) → each_all_built (expressions (map expression_of trees)) ≡ true → All (λ tree. all_built (expression_of tree) ≡ true) trees
+built_operands [] built = All-nil (λ tree. all_built (expression_of tree) ≡ true)
+built_operands (tree ∷ trees) built =
+    let rest = each_all_built (expressions (map expression_of trees)) in
+    All-cons (λ tree. all_built (expression_of tree) ≡ true) tree trees (left (all_built (expression_of tree)) rest built) (built_operands trees (right (all_built (expression_of tree)) rest built))
+
+-- the operator of such a tree is built
+pub is_built-operator : (node : DataSetNode) → all_built (expression_of_node node) ≡ true → is_built node.operator ≡ true
+is_built-operator node = left (is_built node.operator) (each_all_built (expressions (map expression_of node.children)))
+
+-- one of them that is there
+pub built-at : (statements : List CheckedStatement) (i : ℕ) (statement : CheckedStatement) → list_all is_statement_built statements ≡ true → slice_get statements i ≡ Some statement → is_statement_built statement ≡ true
+built-at [] i statement built there = absurd (none-some statement there)
+built-at (s ∷ ss) zero statement built there = ap is_statement_built (sym (ap (λ (o : Option CheckedStatement). unwrap_or o s) there)) ∙ left (is_statement_built s) (list_all is_statement_built ss) built
+built-at (s ∷ ss) (suc i) statement built there = built-at ss i statement (right (is_statement_built s) (list_all is_statement_built ss) built) there
+
 -- the operands of an operator that can be built can be built
 pub can_build_operands : (sources : List Source) (node : DataSetNode) → CanBuild sources (expression_of_node node) → AllCanBuild sources node.children
 can_build_operands sources node can =
     let typed = typed_operands node can.typed in
+    let built = built_operands node.children (right (is_built node.operator) (each_all_built (expressions (map expression_of node.children))) can.built) in
     let named = named_operands sources node.children can.named in
-    (λ k d l. record { typed = typed k d l; named = named k d l })
+    (λ k d l. record { typed = typed k d l; built = built k d l; named = named k d l })
 
 -- what operands that are built have together
 record BuiltOperands (sources : List Source) (es : Expressions Source) (ps : Plains) : Type 0 where

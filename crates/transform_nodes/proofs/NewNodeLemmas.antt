@@ -1,8 +1,9 @@
 -- New nodes stand for empty inputs.
-use Rattle.std.proofs.Common.{◌≡◌, ℕ, zero, suc, List, [], ◌∷◌, length, Option, Some, None, option_map, refl, sym, ◌∙◌, ap, subst, inl, inr, arith, slice_get}
+use Rattle.std.proofs.Common.{◌≡◌, ℕ, zero, suc, List, [], ◌∷◌, length, Option, Some, None, option_map, true, refl, sym, ◌∙◌, ap, subst, inl, inr, arith, slice_get}
 use Rattle.std.specs.Prelude.{count_by}
 use Rattle.std.specs.Option.{IsSomeAnd, unwrap_or}
 use Rattle.std.specs.FinMap.{empty}
+use Rattle.std.specs.List.{list_all}
 use Rattle.std.proofs.lemmas.Bool.{cases_lt}
 use Rattle.std.proofs.lemmas.Option.{slice_get_within}
 use Rattle.point_sets.specs.DataSets.{DataSet}
@@ -11,6 +12,7 @@ use Rattle.data_set_trees.specs.declared.tree.Source.{Source}
 use Rattle.data_set_trees.specs.declared.tree.Source.TheVariants.{Input, Result as ResultOf}
 use Rattle.checked_trees.specs.Expressions.{expression_of, renamed}
 use Rattle.checked_trees.specs.Scripts.{Script, IsChecked, names_in, names_result, once_each, structure_of_source}
+use Rattle.built_scripts.specs.Built.{is_statement_built}
 use Rattle.operator_meaning.specs.Results.{without_points}
 use Rattle.operator_meaning.specs.Scripts.{State, Idle, set_in}
 use Rattle.operator_meaning.proofs.EmptyLemmas.{empties, states-empty, typed_statement}
@@ -21,7 +23,7 @@ use Rattle.transform_nodes.specs.Nodes.{numbered, operand_on, published, StandsA
 use Rattle.transform_nodes.specs.Trees.{Plain, plain, expression, forgotten, StandsOn}
 use Rattle.transform_nodes.specs.declared.node.Child.{Child}
 use Rattle.transform_nodes.specs.declared.work.Settle.TheVariants.{Forget}
-use Rattle.transform_nodes.proofs.BuildLemmas.{all_among}
+use Rattle.transform_nodes.proofs.BuildLemmas.{all_among, built-at}
 use Rattle.transform_nodes.proofs.WorldLemmas.{numbered-map}
 
 input-nothing : {A : Type 0} (ss : List A) (n : ℕ) → unwrap_or (slice_get (empties ss) n) empty ≡ empty
@@ -49,9 +51,10 @@ module _ (s : Script) (checked : IsChecked s) where
 
   module _ (i : ℕ) (statement : CheckedStatement) (there : slice_get s.statements i ≡ Some statement) where
     -- the statement's tree can be built over its names
-    pub can_build : (sources : List Source) → sources ≡ once_each (names_in (expression_of statement.tree)) → CanBuild sources (expression_of statement.tree)
-    can_build sources is = subst (λ (ns : List Source). CanBuild ns (expression_of statement.tree)) (sym is) (record {
+    pub can_build : list_all is_statement_built s.statements ≡ true → (sources : List Source) → sources ≡ once_each (names_in (expression_of statement.tree)) → CanBuild sources (expression_of statement.tree)
+    can_build built sources is = subst (λ (ns : List Source). CanBuild ns (expression_of statement.tree)) (sym is) (record {
       typed = record { structures = structure_of_source s; structure = statement.structure; typed = typed_statement s i statement checked there };
+      built = built-at s.statements i statement built there;
       named = all_among (names_in (expression_of statement.tree));
     })
 

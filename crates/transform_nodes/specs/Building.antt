@@ -8,6 +8,7 @@ use Rattle.data_set_trees.specs.declared.tree.Source.{Source}
 use Rattle.checked_trees.specs.Expressions.{Expression, expression_of, renamed}
 use Rattle.checked_trees.specs.Scripts.{is_same, names_in}
 use Rattle.checked_trees.specs.Typing.{HasStructure}
+use Rattle.built_scripts.specs.Built.{all_built}
 use Rattle.held_index.specs.Holdings.{Holding, FitsStructure}
 use Rattle.held_index.specs.declared.want.Want.{Want}
 use Rattle.transform_nodes.specs.Trees.{Plain, expression, forgotten, IsFit, StandsOn}
@@ -30,9 +31,10 @@ pub record IsWellTyped (e : Expression Source) : Type 0 where
 abbrev pub AreAmong : List Source → List Source → Type 0
 AreAmong sources names = All (λ n. is_among sources n ≡ true) names
 
--- a tree can be built: it is well typed, and all that it names is among the sources
+-- a tree can be built: it is well typed, its operators are built, and all that it names is among the sources
 pub record CanBuild (sources : List Source) (e : Expression Source) : Type 0 where
   pub typed : IsWellTyped e
+  pub built : all_built e ≡ true
   pub named : AreAmong sources (names_in e)
 
 -- a new tree works the expression out over the numbered sources, holds what its rules want of empty operands, and has nothing pending

@@ -6,7 +6,7 @@ use crate::build::{child_of, first_pages, sources_of, uses_of};
 use crate::rule::Rule;
 use crate::settle::settle_child;
 use crate::work::Settle;
-use checked_trees::CheckedScript;
+use built_scripts::CheckedScript;
 use data_set_trees::Source;
 use held_index::{Held, Patch};
 use release_text::Pages;

@@ -1,5 +1,5 @@
 // The rule of any operator.
-ghost use Rattle.std.specs.Prelude.{◌≡◌, IfOk};
+ghost use Rattle.std.specs.Prelude.{◌≡◌, true, IfOk};
 
 use choice_ops::ChoiceRule;
 use clause_ops::ClauseRule;
@@ -31,11 +31,13 @@ pub enum Rule {
 
 impl Rule {
     ghost use Rattle.checked_trees.specs.Operators.{an_operator, IsTyped};
+    ghost use Rattle.built_scripts.specs.Built.{is_built};
     ghost use Rattle.transform_nodes.specs.Rules.{operator_of};
 
     /// The rule of a node's operator.
     pub fn of(alloc: Global, node: &DataSetNode) -> Result<Rule, AllocError>
-        requires { IsTyped (an_operator node.now.operator node.now.operands node.now.structure) }
+        requires typed { IsTyped (an_operator node.now.operator node.now.operands node.now.structure) }
+        requires built { is_built node.now.operator ≡ true }
         ensures { IfOk result (λ rule. operator_of rule ≡ an_operator node.now.operator node.now.operands node.now.structure) }
     {
         match node.operator.get() {

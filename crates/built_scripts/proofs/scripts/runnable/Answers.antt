@@ -5,9 +5,10 @@ use Rattle.built_scripts.specs.Built.{is_statement_built, IsStatementStructured}
 use Rattle.built_scripts.proofs.Built.{checked}
 use Rattle.built_scripts.proofs.scripts.runnable.Goals as goal
 
-pub into_checked-requires : goal.into_checked-requires
-into_checked-requires c =
+pub of-requires : goal.of-requires
+of-requires c =
     let value = c.statements.ensures.value in
-    checked c.args.script c.statements.ensures.typed
-    (ap (λ (sts : List CheckedStatement). list_all is_statement_built sts) (sym value) ∙ sym c.if-are_statements_built.ensures.built)
-    (subst (λ (sts : List CheckedStatement). All IsStatementStructured sts) value (c.if-are_statements_built.ensures.structured refl))
+    record {
+      checked = checked c.args.script c.statements.ensures.typed (subst (λ (sts : List CheckedStatement). All IsStatementStructured sts) value (c.if-are_statements_built.ensures.structured refl));
+      built = ap (λ (sts : List CheckedStatement). list_all is_statement_built sts) (sym value) ∙ sym c.if-are_statements_built.ensures.built;
+    }

@@ -15,7 +15,7 @@ use Rattle.transform_nodes.specs.Building.{nothing_held, AllCanBuild, AreBuilt, 
 use Rattle.transform_nodes.specs.Trees.{Plain, plain}
 use Rattle.transform_nodes.specs.declared.node.Child.TheVariants.{Name}
 use Rattle.transform_nodes.proofs.PlainLemmas.{plain-Name}
-use Rattle.transform_nodes.proofs.BuildLemmas.{built-more, built-name, built-operator, can_build_operands, expression_of-Name}
+use Rattle.transform_nodes.proofs.BuildLemmas.{built-more, built-name, built-operator, can_build_operands, expression_of-Name, is_built-operator}
 use Rattle.transform_nodes.proofs.build.+build.Goals as goal
 
 pub children_of-loop-tree-preserved : goal.children_of-loop-tree-preserved
@@ -30,6 +30,9 @@ tree_of-children_of-requires t c =
     let d = c.decreases in
     let m : most the_size c.as_slice.result.now ≡ most the_size c.args.node.now.children = ap (most the_size) c.as_slice.ensures in
     (search (rules, the_lemmas, d, m, size_is-DataSetNode), subst (λ (trees : List DataSetTree). AllCanBuild c.args.sources.now trees) (sym c.as_slice.ensures) (can_build_operands c.args.sources.now c.args.node.now c.requires))
+
+pub tree_of-of-requires : goal.tree_of-of-requires
+tree_of-of-requires t c = record { typed = c.requires.typed.typed.1; built = is_built-operator c.args.node.now c.requires.built }
 
 -- what the rule wants fits the operands of the node
 pub tree_of-nothing_held_of-requires : goal.tree_of-nothing_held_of-requires

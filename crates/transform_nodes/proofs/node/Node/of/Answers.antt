@@ -15,7 +15,7 @@ child_of-requires c =
     let s = c.args.script.now in
     let named = c.index-statements-statement.result in
     let there : slice_get s.statements c.args.statement ≡ Some named = subst (λ (sts : List CheckedStatement). slice_get sts c.args.statement ≡ Some named) c.statements-statements.ensures.value (slice_get_read c.statements-statements.result.now (length c.statements-statements.result.now) c.args.statement named refl (subst (λ (sts : List CheckedStatement). c.args.statement < length sts) (sym c.statements-statements.ensures.value) c.requires) c.index-statements-statement.is) in
-    subst (λ (ns : List Source). CanBuild ns (expression_of named.tree)) (sym c.as_slice.ensures.value) (can_build s c.statements-statements.ensures.checked c.args.statement named there c.in_ok-sources.sources.items c.in_ok-sources.ensures)
+    subst (λ (ns : List Source). CanBuild ns (expression_of named.tree)) (sym c.as_slice.ensures.value) (can_build s c.statements-statements.ensures.checked c.args.statement named there c.statements-statements.ensures.built c.in_ok-sources.sources.items c.in_ok-sources.ensures)
 
 pub returns-clause-stands : goal.returns-clause-stands
 returns-clause-stands c =
