@@ -26,7 +26,7 @@ fn full_name(name: &ScopeName) -> FullName<'_>
 }
 
 /// Whether no two names are the same, alias and all, or want of memory.
-pub(crate) fn names_differ(alloc: Global, frame: &Frame) -> Result<bool, AllocError>
+pub fn names_differ(alloc: Global, frame: &Frame) -> Result<bool, AllocError>
     ensures { IfOk result (λ differ. differ ≡ meant.names_differ frame.now) }
 {
     let mut seen = IndexSet::new(alloc);

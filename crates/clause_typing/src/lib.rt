@@ -22,6 +22,7 @@ mod unpivot;
 pub use after::frame_after;
 pub use calc::{calc_typed, item_typed};
 pub use choices::{drop_typed, keep_typed};
+pub use differ::names_differ;
 pub use parts::{frame_of, scope_of_frame};
 pub use points::filter_typed;
 pub use rename::rename_typed;

@@ -18,6 +18,7 @@ fn is_role(role: Role, other: Role) -> bool
     role == other
 }
 
+/// Whether a component has this role.
 pub fn has_role(role: Role, component: &Component) -> bool
     ensures { result ≡ frames.has_role role component.now }
 {
@@ -56,12 +57,14 @@ pub fn of_role(
     Ok(found)
 }
 
+/// The identifiers, in their order. Or want of memory.
 pub fn identifiers(alloc: Global, components: &[Component]) -> Result<Items<Component>, AllocError>
     ensures { IfOk result (λ found. found ≡ meant.identifiers components.now) }
 {
     of_role(alloc, Role::Identifier, components)
 }
 
+/// The viral attributes, in their order. Or want of memory.
 pub fn virals(alloc: Global, components: &[Component]) -> Result<Items<Component>, AllocError>
     ensures { IfOk result (λ found. found ≡ meant.virals components.now) }
 {

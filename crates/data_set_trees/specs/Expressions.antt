@@ -1,6 +1,6 @@
 -- What an expression outside of clauses is checked to be, or its first fault (docs/language.md, "Structures of results",
 -- "Faults of structures").
-use Rattle.std.specs.Prelude.{ℕ, List, [], ◌∷◌, map, Option, Some, None, Result, Ok, ⊤}
+use Rattle.std.specs.Prelude.{ℕ, List, [], ◌∷◌, ◌++◌, map, Option, Some, None, Result, Ok, ⊤}
 use Rattle.std.specs.Option.{option_map, option_to_list}
 use Rattle.vtl_values.specs.declared.place.Place.{Place}
 use Rattle.vtl_syntax.specs.declared.words.BinaryFunction.{BinaryFunction}
@@ -38,6 +38,7 @@ use Rattle.data_set_trees.specs.Exists.{exists_typed}
 use Rattle.data_set_trees.specs.Sets.{sets_typed}
 use Rattle.data_set_trees.specs.Choices.{choice_typed}
 use Rattle.data_set_trees.specs.OnClauses.{on_clause}
+use Rattle.data_set_trees.specs.Joins.{alias_of, join_typed}
 
 -- what the names of data sets stand for
 abbrev pub Naming : Type 0
@@ -105,6 +106,16 @@ abbrev pub choice_of : Place → List Operand → SetAnswer
 choice_of place (c ∷ a ∷ b ∷ []) = choice_typed place c a b
 choice_of place _ = refused WrongStructure place
 
+abbrev pub join_typings : JoinOperand × Typing → JoinOperand × Typing → List (JoinOperand × Typing) → List Typing
+join_typings a b others = map (λ (p : JoinOperand × Typing). p.1) (a ∷ b ∷ others)
+
+abbrev pub join_aliases : JoinOperand × Typing → JoinOperand × Typing → List (JoinOperand × Typing) → List (Option (List ℕ))
+join_aliases a b others = map (λ (p : JoinOperand × Typing). alias_of p.0) (a ∷ b ∷ others)
+
+-- those of the clauses in a join that are there, in their order
+abbrev pub clauses_of : Option (Clause × ⊤) → Option (Clause × ⊤) → Option (Clause × ⊤) → Option (Clause × ⊤) → List Clause
+clauses_of filter calc keep rename = map (λ (p : Clause × ⊤). p.0) (((option_to_list filter ++ option_to_list calc) ++ option_to_list keep) ++ option_to_list rename)
+
 -- Names stand for data sets; each operator has its operands, and then its own faults. What isn't built yet is refused
 -- here, and never asked for.
 abbrev pub typed_step : Level → Naming → SetAnswer
@@ -132,7 +143,7 @@ typed_step (Expr-F.Clause a clause place) naming = a.1 naming >>= on_clause clau
 typed_step (Expr-F.ExistsIn a b rows place) naming = a.1 naming >>= (λ x. b.1 naming >>= exists_typed rows place x)
 typed_step (Expr-F.Sets f a b others place) naming = all_typed (a.1 ∷ b.1 ∷ typings others) naming >>= sets_typed (operation_of f) place
 typed_step (Expr-F.Difference f a b place) naming = all_typed (a.1 ∷ b.1 ∷ []) naming >>= sets_typed (difference_of f) place
-typed_step (Expr-F.Join f a b others filter calc keep rename place) naming = refused WrongStructure place
+typed_step (Expr-F.Join f a b others filter calc keep rename place) naming = all_typed (join_typings a b others) naming >>= join_typed f place (join_aliases a b others) (clauses_of filter calc keep rename)
 typed_step (Expr-F.Aggregate f a groups place) naming = refused WrongStructure place
 typed_step (Expr-F.Window f a over place) naming = refused WrongStructure place
 typed_step (Expr-F.CountAll place) naming = refused WrongStructure place

@@ -1,41 +1,46 @@
 -- What an expression is checked to be fits, where names stand for data sets that fit and its literals are in range.
-use Rattle.std.proofs.Common.{◌≡◌, refl, ℕ, Bool, true, ◌&&◌, List, [], ◌∷◌, map, Option, Some, None, Ok, sym, subst, ◌∙◌}
+use Rattle.std.proofs.Common.{◌≡◌, refl, ℕ, Bool, true, ◌&&◌, List, [], ◌∷◌, ◌++◌, map, Option, Some, None, Ok, ap, sym, subst, ◌∙◌}
+use Rattle.std.proofs.lemmas.List.Folds.{list_all-map, list_all-append}
 use Rattle.std.proofs.lemmas.List.Elements.{All-nil, All-cons, All-head, All-tail}
-use Rattle.std.specs.Prelude.{⊤}
+use Rattle.std.specs.Prelude.{⊤, option_map}
 use Rattle.std.specs.List.{All, list_all}
 use Rattle.std.specs.Option.{option_to_list}
 use Rattle.vtl_values.specs.declared.place.Place.{Place}
 use Rattle.vtl_values.specs.declared.structure.Component.{Component}
 use Rattle.vtl_syntax.specs.declared.words.BinaryFunction.{BinaryFunction}
 use Rattle.vtl_syntax.specs.declared.words.BinaryFunction.TheVariants as function
+use Rattle.vtl_syntax.specs.declared.words.JoinFunction.{JoinFunction}
 use Rattle.vtl_syntax.specs.declared.expr.Clause.{Clause}
-use Rattle.vtl_syntax.specs.declared.expr.Clause.TheOpen.{Expr-F, SubstrRange-F}
+use Rattle.vtl_syntax.specs.declared.expr.Clause.TheOpen.{Expr-F, JoinOperand-F, SubstrRange-F}
 use Rattle.vtl_syntax.specs.declared.expr.Expr.{Expr, roll-Expr, para-roll-Expr, ind-Expr}
 use Rattle.vtl_syntax.specs.declared.expr.Groups.{Groups}
 use Rattle.vtl_syntax.specs.declared.expr.Item.{Item}
-use Rattle.vtl_syntax.specs.declared.expr.JoinOperand.{JoinOperand, para-JoinOperand}
+use Rattle.vtl_syntax.specs.declared.expr.JoinOperand.{JoinOperand, roll-JoinOperand, fold-roll-JoinOperand, para-JoinOperand, para-roll-JoinOperand}
 use Rattle.vtl_syntax.specs.declared.expr.SubstrRange.{SubstrRange, roll-SubstrRange, para-SubstrRange, para-roll-SubstrRange}
+use Rattle.vtl_syntax.proofs.Maps.{maps-Join}
 use Rattle.scalar_trees.specs.WellTyped.{in_range}
 use Rattle.typing_rules.specs.Operators.{prefix_operator, unary_operator, or_operator, sum_operator, product_operator, comparison_operator}
 use Rattle.scalar_trees.specs.declared.operators.BinaryOperator.TheVariants as binary
 use Rattle.typing_rules.specs.Steps.{◌>>=◌}
 use Rattle.typing_rules.proofs.Folds.{Trees}
-use Rattle.typing_rules.proofs.Levels.{Family, Maps, over-Expr, over-SubstrRange}
-use Rattle.typing_rules.proofs.Sound.{left, right}
+use Rattle.typing_rules.proofs.Levels.{Family, Maps, over-Expr, over-JoinOperand, over-SubstrRange}
+use Rattle.typing_rules.proofs.Sound.{both, left, right}
 use Rattle.data_set_trees.specs.declared.form.Form.{Form}
 use Rattle.data_set_trees.specs.declared.form.Form.TheVariants as form
 use Rattle.data_set_trees.specs.declared.operand.DataSet.{DataSet}
 use Rattle.data_set_trees.specs.declared.operand.Operand.{Operand}
 use Rattle.data_set_trees.specs.declared.tree.Source.{Source}
-use Rattle.data_set_trees.specs.Expressions.{Naming, Typing, RangeTyping, all_typed, typings, on_operands, form_of_function, operation_of, difference_of, sorted, choice_of, typed_step, operand_step, range_step, typing, typed}
+use Rattle.data_set_trees.specs.Expressions.{Naming, Typing, RangeTyping, all_typed, typings, on_operands, form_of_function, operation_of, difference_of, sorted, choice_of, join_aliases, clauses_of, typed_step, operand_step, range_step, typing, typed}
 use Rattle.data_set_trees.specs.Exists.{exists_typed}
+use Rattle.data_set_trees.specs.Joins.{join_typed}
 use Rattle.data_set_trees.specs.Members.{member_typed}
 use Rattle.data_set_trees.specs.OnClauses.{on_clause}
 use Rattle.data_set_trees.specs.Pairs.{lifted}
 use Rattle.data_set_trees.specs.Sets.{sets_typed}
 use Rattle.data_set_trees.specs.Trees.{SetAnswer}
 use Rattle.fitting_trees.specs.Fitting.{IsFitting}
-use Rattle.literal_ranges.specs.Ranges.{all_are, range_step as ranged, literals_in_range, clause_in_range, part_in_range}
+use Rattle.literal_ranges.specs.Ranges.{if_given, all_are, range_step as ranged, clause_range_step, item_range_step, operand_range_step, part_range_step, literals_in_range, clause_in_range, operand_in_range, part_in_range}
+use Rattle.fitting_trees.proofs.Joins.{join_typed-fits}
 use Rattle.fitting_trees.proofs.Lifted.{form_in_range}
 use Rattle.fitting_trees.proofs.Rows.{IsFit, Fits, lifted-fits, literal-fits, named-fits, sorted-fits, member-fits, exists-fits, sets_typed-fits, choice-fits, on_clause-fits}
 use Rattle.fitting_trees.proofs.Scalars.{answered, Truths, ranges, level-in_range, part-in_range, gave}
@@ -55,13 +60,22 @@ range_typing = para-SubstrRange ⊤ Typing ⊤ ⊤ Typing RangeTyping (λ clause
 abbrev pair : Expr → Expr × Typing
 pair e = (e, typing e)
 
+abbrev operand_typing : JoinOperand → Typing
+operand_typing = para-JoinOperand ⊤ Typing ⊤ ⊤ Typing RangeTyping (λ clause. tt) typed_step (λ groups. tt) (λ item. tt) operand_step range_step
+
+abbrev operand_pair : JoinOperand → JoinOperand × Typing
+operand_pair o = (o, operand_typing o)
+
+abbrev clause_pair : Clause → Clause × ⊤
+clause_pair c = (c, tt)
+
 abbrev parts : Maps Trees Parts
 parts = record {
-  on_Clause = λ c. (c, tt);
+  on_Clause = clause_pair;
   on_Expr = pair;
   on_Groups = λ g. (g, tt);
   on_Item = λ i. (i, tt);
-  on_JoinOperand = λ o. (o, para-JoinOperand ⊤ Typing ⊤ ⊤ Typing RangeTyping (λ clause. tt) typed_step (λ groups. tt) (λ item. tt) operand_step range_step o);
+  on_JoinOperand = operand_pair;
   on_SubstrRange = λ r. (r, range_typing r);
 }
 
@@ -106,7 +120,7 @@ module _ (structures : Source → Option (List Component)) (among : Source → T
   GoodRange q = All Good (q.start ∷ option_to_list q.length)
 
   abbrev Such : Family
-  Such = record { of_Clause = (c : Clause) × ⊤; of_Expr = (e : Expr) × GoodExpr e; of_Groups = (g : Groups) × ⊤; of_Item = (i : Item) × ⊤; of_JoinOperand = (o : JoinOperand) × ⊤; of_SubstrRange = (r : SubstrRange) × (part_in_range r ≡ true → GoodRange (range_typing r)) }
+  Such = record { of_Clause = (c : Clause) × ⊤; of_Expr = (e : Expr) × GoodExpr e; of_Groups = (g : Groups) × ⊤; of_Item = (i : Item) × ⊤; of_JoinOperand = (o : JoinOperand) × (operand_in_range o ≡ true → Good (operand_typing o)); of_SubstrRange = (r : SubstrRange) × (part_in_range r ≡ true → GoodRange (range_typing r)) }
 
   abbrev firsts : Maps Such Trees
   firsts = record { on_Clause = λ s. s.0; on_Expr = λ s. s.0; on_Groups = λ s. s.0; on_Item = λ s. s.0; on_JoinOperand = λ s. s.0; on_SubstrRange = λ s. s.0 }
@@ -134,6 +148,82 @@ module _ (structures : Source → Option (List Component)) (among : Source → T
   others-of (a ∷ es) r =
       let more = all_are (map literals_in_range (map (λ (b : Such.of_Expr). b.0) es)) in
       All-cons Good (type_of a) (typings (map pair (map (λ (b : Such.of_Expr). b.0) es))) (a.1 (left (good a) more r)) (others-of es (right (good a) more r))
+
+  -- ---- joins
+
+  abbrev firsts_of : List Such.of_JoinOperand → List JoinOperand
+  firsts_of os = map (λ (o : Such.of_JoinOperand). o.0) os
+
+  abbrev written : Option Such.of_Clause → Option Clause
+  written u = option_map (λ (c : Such.of_Clause). c.0) u
+
+  abbrev is_part_in_range : Clause × ⊤ → Bool
+  is_part_in_range p = clause_in_range p.0
+
+  each-operand : (os : List Such.of_JoinOperand) → all_are (map operand_in_range (firsts_of os)) ≡ true → All Good (map (λ (p : JoinOperand × Typing). p.1) (map operand_pair (firsts_of os)))
+  each-operand [] r = All-nil Good
+  each-operand (o ∷ os) r =
+      let more = all_are (map operand_in_range (firsts_of os)) in
+      All-cons Good (operand_typing o.0) (map (λ (p : JoinOperand × Typing). p.1) (map operand_pair (firsts_of os))) (o.1 (left (operand_in_range o.0) more r)) (each-operand os (right (operand_in_range o.0) more r))
+
+  if_given-ranged : (u : Option Clause) → if_given (option_map clause_in_range u) ≡ true → list_all is_part_in_range (option_to_list (option_map (λ (c : Clause). (c, tt)) u)) ≡ true
+  if_given-ranged None r = refl
+  if_given-ranged (Some c) r = both (clause_in_range c) true r refl
+
+  clauses-ranged : (u v w x : Option Clause) → (if_given (option_map clause_in_range u) && (if_given (option_map clause_in_range v) && (if_given (option_map clause_in_range w) && if_given (option_map clause_in_range x)))) ≡ true
+      → list_all clause_in_range (clauses_of (option_map clause_pair u) (option_map clause_pair v) (option_map clause_pair w) (option_map clause_pair x)) ≡ true
+  clauses-ranged u v w x r =
+      let of = λ (c : Option Clause). if_given (option_map clause_in_range c) in
+      let list = λ (c : Option Clause). option_to_list (option_map clause_pair c) in
+      let all = list_all is_part_in_range in
+      let second = right (of u) (of v && (of w && of x)) r in
+      let third = right (of v) (of w && of x) second in
+      list_all-map clause_in_range (λ (p : Clause × ⊤). p.0) (((list u ++ list v) ++ list w) ++ list x)
+      ∙ list_all-append is_part_in_range ((list u ++ list v) ++ list w) (list x)
+      ∙ both (all ((list u ++ list v) ++ list w)) (all (list x))
+      (list_all-append is_part_in_range (list u ++ list v) (list w)
+      ∙ both (all (list u ++ list v)) (all (list w))
+      (list_all-append is_part_in_range (list u) (list v) ∙ both (all (list u)) (all (list v)) (if_given-ranged u (left (of u) (of v && (of w && of x)) r)) (if_given-ranged v (left (of v) (of w && of x) second)))
+      (if_given-ranged w (left (of w) (of x) third)))
+      (if_given-ranged x (right (of w) (of x) third))
+
+  -- after the first of these, and the others
+  after_some : (t : Typing) (ts : List Typing) (next : List Operand → SetAnswer) → All Good (t ∷ ts) → ((a : Operand) (os : List Operand) → All Fit (a ∷ os) → FitsAll (next (a ∷ os))) → FitsAll (all_typed (t ∷ ts) naming >>= next)
+  after_some t ts next all then o e =
+      let os = gave (all_typed (t ∷ ts) naming) next o e in
+      let first = gave (t naming) (λ a. all_typed ts naming >>= (λ more. Ok (a ∷ more))) os.0 os.1 in
+      let others = gave (all_typed ts naming) (λ more. Ok (first.0 ∷ more)) os.0 first.2 in
+      let is : first.0 ∷ others.0 ≡ os.0 = answered (first.0 ∷ others.0) os.0 others.2 in
+      then first.0 others.0 (subst (All Fit) (sym is) (all_typed-fit (t ∷ ts) all os.0 os.1)) o (ap next is ∙ os.2)
+
+  join-fits : (f : JoinFunction) (a b : Such.of_JoinOperand) (os : List Such.of_JoinOperand) (u v w x : Option Clause) (place : Place)
+      → ((operand_in_range a.0 && (operand_in_range b.0 && all_are (map operand_in_range (firsts_of os)))) && (if_given (option_map clause_in_range u) && (if_given (option_map clause_in_range v) && (if_given (option_map clause_in_range w) && if_given (option_map clause_in_range x))))) ≡ true
+      → FitsAll (typed_step (Expr-F.Join f (operand_pair a.0) (operand_pair b.0) (map operand_pair (firsts_of os)) (option_map clause_pair u) (option_map clause_pair v) (option_map clause_pair w) (option_map clause_pair x) place) naming)
+  join-fits f a b os u v w x place r =
+      let first = operand_in_range a.0 in
+      let second = operand_in_range b.0 in
+      let more = all_are (map operand_in_range (firsts_of os)) in
+      let clauses = if_given (option_map clause_in_range u) && (if_given (option_map clause_in_range v) && (if_given (option_map clause_in_range w) && if_given (option_map clause_in_range x))) in
+      let operands = left (first && (second && more)) clauses r in
+      let others = right first (second && more) operands in
+      let rest = map (λ (p : JoinOperand × Typing). p.1) (map operand_pair (firsts_of os)) in
+      let good_ones = All-cons Good (operand_typing a.0) (operand_typing b.0 ∷ rest) (a.1 (left first (second && more) operands)) (All-cons Good (operand_typing b.0) rest (b.1 (left second more others)) (each-operand os (right second more others))) in
+      let aliases = join_aliases (operand_pair a.0) (operand_pair b.0) (map operand_pair (firsts_of os)) in
+      let cs = clauses_of (option_map clause_pair u) (option_map clause_pair v) (option_map clause_pair w) (option_map clause_pair x) in
+      after_some (operand_typing a.0) (operand_typing b.0 ∷ rest) (join_typed f place aliases cs) good_ones
+      (λ c more_of fit. join_typed-fits structures among f place aliases cs (clauses-ranged u v w x (right (first && (second && more)) clauses r)) c more_of fit)
+
+  join-level : (f : JoinFunction) (a b : Such.of_JoinOperand) (os : List Such.of_JoinOperand) (u v w x : Option Such.of_Clause) (place : Place)
+      → ranged (over-Expr {X = Trees} {Y = Truths} ranges (over-Expr {X = Such} {Y = Trees} firsts (Expr-F.Join f a b os u v w x place))) ≡ true
+      → FitsAll (typed_step (over-Expr {X = Trees} {Y = Parts} parts (over-Expr {X = Such} {Y = Trees} firsts (Expr-F.Join f a b os u v w x place))) naming)
+  join-level f a b os u v w x place r =
+      let whole : Expr-F Clause Expr Groups Item JoinOperand SubstrRange = Expr-F.Join f a.0 b.0 (firsts_of os) (written u) (written v) (written w) (written x) place in
+      let is : over-Expr {X = Such} {Y = Trees} firsts (Expr-F.Join f a b os u v w x place) ≡ whole =
+      maps-Join Such.of_Clause Such.of_Expr Such.of_Groups Such.of_Item Such.of_JoinOperand Such.of_SubstrRange Clause Expr Groups Item JoinOperand SubstrRange firsts.on_Clause firsts.on_Expr firsts.on_Groups firsts.on_Item firsts.on_JoinOperand firsts.on_SubstrRange f a b os u v w x place in
+      let truths = maps-Join Clause Expr Groups Item JoinOperand SubstrRange Bool Bool Bool Bool Bool Bool ranges.on_Clause ranges.on_Expr ranges.on_Groups ranges.on_Item ranges.on_JoinOperand ranges.on_SubstrRange f a.0 b.0 (firsts_of os) (written u) (written v) (written w) (written x) place in
+      let typings = maps-Join Clause Expr Groups Item JoinOperand SubstrRange (Clause × ⊤) (Expr × Typing) (Groups × ⊤) (Item × ⊤) (JoinOperand × Typing) (SubstrRange × RangeTyping) parts.on_Clause parts.on_Expr parts.on_Groups parts.on_Item parts.on_JoinOperand parts.on_SubstrRange f a.0 b.0 (firsts_of os) (written u) (written v) (written w) (written x) place in
+      subst (λ l. FitsAll (typed_step l naming)) (sym (ap (over-Expr {X = Trees} {Y = Parts} parts) is ∙ typings))
+      (join-fits f a b os (written u) (written v) (written w) (written x) place (sym (ap ranged (ap (over-Expr {X = Trees} {Y = Truths} ranges) is ∙ truths)) ∙ r))
 
   level : (y : SuchExpr) → ranged (over-Expr {X = Trees} {Y = Truths} ranges (over-Expr {X = Such} {Y = Trees} firsts y)) ≡ true → FitsAll (typed_step (over-Expr {X = Trees} {Y = Parts} parts (over-Expr {X = Such} {Y = Trees} firsts y)) naming)
   level (Expr-F.Literal v place) r = literal-fits structures among v r
@@ -176,6 +266,7 @@ module _ (structures : Source → Option (List Component)) (among : Source → T
       after_all (type_of a ∷ type_of b ∷ rest) (sets_typed (operation_of f) place)
       (All-cons Good (type_of a) (type_of b ∷ rest) (a.1 (left (good a) (good b && more) r)) (All-cons Good (type_of b) rest (b.1 (left (good b) more tail)) (others-of others (right (good b) more tail))))
       (sets_typed-fits structures among (operation_of f) place)
+  level (Expr-F.Join f a b others filter calc keep rename place) r = join-level f a b others filter calc keep rename place r
   level (Expr-F.Difference f a b place) r = after_all (type_of a ∷ type_of b ∷ []) (sets_typed (difference_of f) place) (two-of a b r) (sets_typed-fits structures among (difference_of f) place)
   level _ r = λ o e. cc
 
@@ -201,13 +292,19 @@ module _ (structures : Source → Option (List Component)) (among : Source → T
       let own = sym (part-in_range (over-SubstrRange {X = Such} {Y = Trees} firsts y)) ∙ r in
       range_at y (two-of start s own)
 
+  operand_at : (y : JoinOperand-F Such.of_Clause Such.of_Expr Such.of_Groups Such.of_Item Such.of_JoinOperand Such.of_SubstrRange) → operand_in_range (roll-JoinOperand (over-JoinOperand {X = Such} {Y = Trees} firsts y)) ≡ true → Good (operand_typing (roll-JoinOperand (over-JoinOperand {X = Such} {Y = Trees} firsts y)))
+  operand_at y r =
+      let x = over-JoinOperand {X = Such} {Y = Trees} firsts y in
+      let own = sym (fold-roll-JoinOperand Bool Bool Bool Bool Bool Bool clause_range_step ranged (λ groups. true) item_range_step operand_range_step part_range_step x) ∙ r in
+      subst Good (sym (para-roll-JoinOperand ⊤ Typing ⊤ ⊤ Typing RangeTyping (λ clause. tt) typed_step (λ groups. tt) (λ item. tt) operand_step range_step x)) (y.expr.1 own)
+
   pub typed-fits : (e : Expr) → literals_in_range e ≡ true → (o : Operand) → typed naming e ≡ Ok o → IsFit structures among o
   typed-fits e =
-      ind-Expr (λ c. ⊤) GoodExpr (λ g. ⊤) (λ i. ⊤) (λ o. ⊤) (λ r. part_in_range r ≡ true → GoodRange (range_typing r))
+      ind-Expr (λ c. ⊤) GoodExpr (λ g. ⊤) (λ i. ⊤) (λ o. operand_in_range o ≡ true → Good (operand_typing o)) (λ r. part_in_range r ≡ true → GoodRange (range_typing r))
       (λ x y is. tt)
       (λ x y is. subst (λ (w : Expr-F Clause Expr Groups Item JoinOperand SubstrRange). GoodExpr (roll-Expr w)) is (at y))
       (λ x y is. tt)
       (λ x y is. tt)
-      (λ x y is. tt)
+      (λ x y is. subst (λ (w : JoinOperand-F Clause Expr Groups Item JoinOperand SubstrRange). operand_in_range (roll-JoinOperand w) ≡ true → Good (operand_typing (roll-JoinOperand w))) is (operand_at y))
       (λ x y is. subst (λ (w : SubstrRange-F Clause Expr Groups Item JoinOperand SubstrRange). part_in_range (roll-SubstrRange w) ≡ true → GoodRange (range_typing (roll-SubstrRange w))) is (range y.start y.length y.place))
       e

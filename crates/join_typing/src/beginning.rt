@@ -13,11 +13,12 @@ use crate::frames::{join_frame, structures_of};
 use crate::joining::Joining;
 use crate::operands::{Aliased, all_aliased, all_sets};
 use clause_trees::Frame;
+use clause_typing::names_differ;
 use data_set_parts::demands::demands;
 use data_set_trees::Operand;
 use sqlite_items::Items;
-use std::alloc::Global;
-use typing_rules::{Fault, ScopeName, TypeStop};
+use std::alloc::{AllocError, Global};
+use typing_rules::{Fault, TypeStop};
 use vtl_syntax::words::JoinFunction;
 use vtl_values::{Place, Word};
 
@@ -44,41 +45,6 @@ fn aliases_differ(operands: &[Aliased]) -> bool
     no_alias_twice(operands)
 }
 
-fn is_same_alias(alias: &Option<Word>, other: &Option<Word>) -> bool
-    ensures { result ≡ clauses.is_same_alias alias.now other.now }
-{
-    match (alias, other) {
-        (None, None) => true,
-        (Some(alias), Some(other)) => *alias == *other,
-        _ => false,
-    }
-}
-
-fn is_same_name(name: &ScopeName, other: &ScopeName) -> bool
-    ensures { result ≡ clauses.is_same_name name.now other.now }
-{
-    is_same_alias(&name.alias, &other.alias) && name.name == other.name
-}
-
-fn has_name(name: &ScopeName, others: &[ScopeName]) -> bool
-    ensures { result ≡ list_any (clauses.is_same_name name.now) others.now }
-{
-    others.iter().any(|other| is_same_name(name, other))
-}
-
-/// Whether no two names in the frame are the same, alias and all.
-fn names_differ(frame: &Frame) -> bool
-    ensures { result ≡ clauses.names_differ frame.now }
-{
-    let names = frame.names.as_slice();
-    for (i, name) in names.iter().enumerate() {
-        if has_name(name, &names[i + 1..]) {
-            return false;
-        }
-    }
-    true
-}
-
 const MOST_COMPONENTS: usize = 64;
 
 fn has_room(frame: &Frame) -> bool
@@ -87,23 +53,30 @@ fn has_room(frame: &Frame) -> bool
     frame.components.len() <= MOST_COMPONENTS
 }
 
-/// Whether no two aliases are the same, and no two names in the frame.
-fn all_differ(operands: &[Aliased], frame: &Frame) -> bool
-    ensures { result ≡ (meant.aliases_differ (map own.aliased operands.now) && clauses.names_differ frame.now) }
+/// Whether no two aliases are the same, and no two names in the frame, alias and all. Or want of memory.
+fn all_differ(alloc: Global, operands: &[Aliased], frame: &Frame) -> Result<bool, AllocError>
+    ensures { IfOk result (λ differ. differ ≡ (meant.aliases_differ (map own.aliased operands.now) && clauses.names_differ frame.now)) }
 {
-    aliases_differ(operands) && names_differ(frame)
+    Ok(aliases_differ(operands) && names_differ(alloc, frame)?)
 }
 
-/// What is demanded of a join whose operands may be joined or not, in the order of the faults.
-fn demanded_of(place: Place, may: bool, operands: &[Aliased], frame: &Frame) -> Result<(), TypeStop>
+/// What is demanded of a join whose operands may be joined or not, in the order of the faults. Or want of memory.
+fn demanded_of(
+    alloc: Global,
+    place: Place,
+    may: bool,
+    operands: &[Aliased],
+    frame: &Frame,
+) -> Result<(), TypeStop>
     ensures ok { IfOk result (λ met. own.demanded_of place may (map own.aliased operands.now) frame.now ≡ Ok met) }
     ensures err { IfErr result (Refuses (own.demanded_of place may (map own.aliased operands.now) frame.now)) }
 {
+    let differ = all_differ(alloc, operands, frame)?;
     demands(
         place,
         &[
             (may, Fault::WrongStructure),
-            (all_differ(operands, frame), Fault::NameTwice),
+            (differ, Fault::NameTwice),
             (has_room(frame), Fault::TooManyComponents),
         ],
     )
@@ -124,7 +97,7 @@ fn framed(
     let structures = structures_of(alloc, operands)?;
     let may = may_join(alloc, function, structures.as_slice())?;
     let frame = join_frame(alloc, function, operands, structures.as_slice())?;
-    demanded_of(place, may, operands, &frame)?;
+    demanded_of(alloc, place, may, operands, &frame)?;
     Ok(frame)
 }
 
@@ -132,7 +105,7 @@ fn framed(
 /// `WrongStructure` where an operand is a scalar or has no alias, where the identifiers of the operands aren't those that the
 /// join wants, or where viral attributes of one name have several code lists; else `NameTwice` where two aliases are equal, or
 /// a bare name would stand for two components; else `TooManyComponents`. Or want of memory. What it has fits inside a join.
-/// It costs the squares of the numbers of operands and of the names of their components.
+/// It costs the square of the number of operands, and the number of the names of their components.
 pub fn begin(
     alloc: Global,
     function: JoinFunction,

@@ -1,7 +1,9 @@
 -- Whether the literals in an expression are in range, where parts of it are lists.
 use Rattle.std.proofs.Common.{◌≡◌, refl, ℕ, Bool, true, ◌&&◌, List, [], ◌∷◌, Option, Some, None, map, sym, ap, ◌∙◌}
+use Rattle.std.specs.Prelude.{option_map}
 use Rattle.std.specs.List.{list_all}
 use Rattle.vtl_values.specs.declared.place.Place.{Place}
+use Rattle.vtl_syntax.specs.declared.words.JoinFunction.{JoinFunction}
 use Rattle.vtl_syntax.specs.declared.words.SetFunction.{SetFunction}
 use Rattle.vtl_syntax.specs.declared.expr.Clause.{Clause, fold-roll-Clause}
 use Rattle.vtl_syntax.specs.declared.expr.Clause.TheOpen.{Clause-F, Expr-F}
@@ -10,15 +12,13 @@ use Rattle.vtl_syntax.specs.declared.expr.Expr.{Expr, map-Expr, roll-Expr, fold-
 use Rattle.vtl_syntax.specs.declared.expr.Expr.TheVariants as tree
 use Rattle.vtl_syntax.specs.declared.expr.Groups.{Groups, fold-Groups}
 use Rattle.vtl_syntax.specs.declared.expr.Item.{Item}
-use Rattle.vtl_syntax.specs.declared.expr.JoinOperand.{JoinOperand, fold-JoinOperand}
+use Rattle.vtl_syntax.specs.declared.expr.JoinOperand.{JoinOperand}
 use Rattle.vtl_syntax.specs.declared.expr.SubstrRange.{SubstrRange}
-use Rattle.literal_ranges.specs.Ranges.{all_are, range_step, clause_range_step, item_range_step, operand_range_step, part_range_step, literals_in_range, clause_in_range, item_in_range, part_in_range}
+use Rattle.vtl_syntax.proofs.Maps.{maps-Join}
+use Rattle.literal_ranges.specs.Ranges.{if_given, all_are, range_step, clause_range_step, item_range_step, operand_range_step, part_range_step, literals_in_range, clause_in_range, item_in_range, operand_in_range, part_in_range}
 
 abbrev groups_in_range : Groups → Bool
 groups_in_range = fold-Groups Bool Bool Bool Bool Bool Bool clause_range_step range_step (λ groups. true) item_range_step operand_range_step part_range_step
-
-abbrev operand_in_range : JoinOperand → Bool
-operand_in_range = fold-JoinOperand Bool Bool Bool Bool Bool Bool clause_range_step range_step (λ groups. true) item_range_step operand_range_step part_range_step
 
 abbrev mapped : Expr-F Clause Expr Groups Item JoinOperand SubstrRange → Expr-F Bool Bool Bool Bool Bool Bool
 mapped x = map-Expr Clause Expr Groups Item JoinOperand SubstrRange Bool Bool Bool Bool Bool Bool clause_in_range literals_in_range groups_in_range item_in_range operand_in_range part_in_range x
@@ -35,6 +35,16 @@ pub of-Sets : (f : SetFunction) (a b : Expr) (es : List Expr) (p : Place) → li
 of-Sets f a b es p =
     told (Expr-F.Sets f a b es p) (tree.Sets f a b es p) (tree.rolls-Sets f a b es p)
     ∙ ap (λ rest. literals_in_range a && (literals_in_range b && rest)) (all-mapped literals_in_range es)
+
+-- of the clauses of a join
+abbrev pub clauses_in_range : Option Clause → Option Clause → Option Clause → Option Clause → Bool
+clauses_in_range u v w x = if_given (option_map clause_in_range u) && (if_given (option_map clause_in_range v) && (if_given (option_map clause_in_range w) && if_given (option_map clause_in_range x)))
+
+pub of-Join : (f : JoinFunction) (a b : JoinOperand) (os : List JoinOperand) (u v w x : Option Clause) (p : Place) → literals_in_range (tree.Join f a b os u v w x p) ≡ ((operand_in_range a && (operand_in_range b && list_all operand_in_range os)) && clauses_in_range u v w x)
+of-Join f a b os u v w x p =
+    told (Expr-F.Join f a b os u v w x p) (tree.Join f a b os u v w x p) (tree.rolls-Join f a b os u v w x p)
+    ∙ ap range_step (maps-Join Clause Expr Groups Item JoinOperand SubstrRange Bool Bool Bool Bool Bool Bool clause_in_range literals_in_range groups_in_range item_in_range operand_in_range part_in_range f a b os u v w x p)
+    ∙ ap (λ rest. (operand_in_range a && (operand_in_range b && rest)) && clauses_in_range u v w x) (all-mapped operand_in_range os)
 
 pub of-Calc : (items : List Item) (p : Place) → clause_in_range (clause.Calc items p) ≡ list_all item_in_range items
 of-Calc items p =

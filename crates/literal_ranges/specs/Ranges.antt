@@ -5,6 +5,7 @@ use Rattle.vtl_syntax.specs.declared.expr.Clause.{Clause, fold-Clause}
 use Rattle.vtl_syntax.specs.declared.expr.Clause.TheOpen.{Clause-F, Expr-F, Item-F, JoinOperand-F, SubstrRange-F}
 use Rattle.vtl_syntax.specs.declared.expr.Expr.{Expr, fold-Expr}
 use Rattle.vtl_syntax.specs.declared.expr.Item.{Item, fold-Item}
+use Rattle.vtl_syntax.specs.declared.expr.JoinOperand.{JoinOperand, fold-JoinOperand}
 use Rattle.vtl_syntax.specs.declared.expr.SubstrRange.{SubstrRange, fold-SubstrRange}
 use Rattle.scalar_trees.specs.WellTyped.{in_range}
 
@@ -41,6 +42,7 @@ range_step (Expr-F.Clause a clause place) = a && clause
 range_step (Expr-F.ExistsIn a b rows place) = a && b
 range_step (Expr-F.Sets f a b others place) = a && (b && all_are others)
 range_step (Expr-F.Difference f a b place) = a && b
+range_step (Expr-F.Join f a b others filter calc keep rename place) = (a && (b && all_are others)) && (if_given filter && (if_given calc && (if_given keep && if_given rename)))
 range_step _ = true
 
 abbrev pub clause_range_step : Clause-F Bool Bool Bool Bool Bool Bool → Bool
@@ -68,6 +70,10 @@ clause_in_range = fold-Clause Bool Bool Bool Bool Bool Bool clause_range_step ra
 -- those in an item of `calc`
 abbrev pub item_in_range : Item → Bool
 item_in_range = fold-Item Bool Bool Bool Bool Bool Bool clause_range_step range_step (λ groups. true) item_range_step operand_range_step part_range_step
+
+-- those in an operand of a join
+abbrev pub operand_in_range : JoinOperand → Bool
+operand_in_range = fold-JoinOperand Bool Bool Bool Bool Bool Bool clause_range_step range_step (λ groups. true) item_range_step operand_range_step part_range_step
 
 -- those in `, start, length`
 abbrev pub part_in_range : SubstrRange → Bool

@@ -2,11 +2,11 @@
 ghost use Rattle.std.specs.Prelude.{◌≡◌, ◌&&◌, true, option_map};
 ghost use Rattle.std.specs.List.{list_all};
 ghost use Rattle.scalar_trees.specs.WellTyped.{in_range};
-ghost use Rattle.literal_ranges.specs.Ranges.{if_given, literals_in_range, clause_in_range, item_in_range, part_in_range};
+ghost use Rattle.literal_ranges.specs.Ranges.{if_given, literals_in_range, clause_in_range, item_in_range, operand_in_range, part_in_range};
 
 use scalar_trees::literal_kind;
 use sqlite_items::Boxed;
-use vtl_syntax::{Clause, Expr, Item, SubstrRange};
+use vtl_syntax::{Clause, Expr, Item, JoinOperand, SubstrRange};
 use vtl_values::Value;
 
 fn see_value(value: &Value)
@@ -84,7 +84,19 @@ pub fn see_literals(tree: &Expr)
             ..
         } => see_sets(first.get(), second.get(), others.as_slice()),
         Expr::Difference { left, right, .. } => see_both(left.get(), right.get()),
-        Expr::Join { .. } => (),
+        Expr::Join {
+            first,
+            second,
+            others,
+            filter,
+            calc,
+            keep,
+            rename,
+            ..
+        } => {
+            see_operands(first.get(), second.get(), others.as_slice());
+            see_clauses(filter, calc, keep, rename);
+        }
         Expr::Name { .. } => (),
         Expr::Aggregate { .. } => (),
         Expr::Window { .. } => (),
@@ -217,6 +229,56 @@ fn see_with_clause(tree: &Expr, clause: &Clause)
 {
     see_literals(tree);
     see_clause(clause);
+}
+
+#[cycle(walk)]
+fn see_if_given(clause: &Option<Boxed<Clause>>)
+    ensures { if_given (option_map clause_in_range clause.now) ≡ true }
+{
+    match clause {
+        Some(clause) => see_clause(clause.get()),
+        None => (),
+    }
+}
+
+#[cycle(walk)]
+fn see_clauses(
+    filter: &Option<Boxed<Clause>>,
+    calc: &Option<Boxed<Clause>>,
+    keep: &Option<Boxed<Clause>>,
+    rename: &Option<Boxed<Clause>>,
+)
+    ensures { (if_given (option_map clause_in_range filter.now) && (if_given (option_map clause_in_range calc.now) && (if_given (option_map clause_in_range keep.now) && if_given (option_map clause_in_range rename.now)))) ≡ true }
+{
+    see_if_given(filter);
+    see_if_given(calc);
+    see_if_given(keep);
+    see_if_given(rename);
+}
+
+#[cycle(walk)]
+fn see_operand(operand: &JoinOperand)
+    ensures { operand_in_range operand.now ≡ true }
+{
+    see_literals(operand.expr.get());
+}
+
+#[cycle(walk)]
+fn see_each_operand(operands: &[JoinOperand])
+    ensures { list_all operand_in_range operands.now ≡ true }
+{
+    for operand in operands {
+        see_operand(operand);
+    }
+}
+
+#[cycle(walk)]
+fn see_operands(first: &JoinOperand, second: &JoinOperand, others: &[JoinOperand])
+    ensures { (operand_in_range first.now && (operand_in_range second.now && list_all operand_in_range others.now)) ≡ true }
+{
+    see_operand(first);
+    see_operand(second);
+    see_each_operand(others);
 }
 
 #[cycle(walk)]

@@ -33,27 +33,7 @@ use Rattle.data_set_trees.specs.OnClauses.{item_checked, items_checked, clause_s
 use Rattle.data_set_parts.specs.Results.{structure_after}
 use Rattle.data_set_parts.proofs.Fits.{unlisted_is}
 use Rattle.data_set_parts.proofs.Follows.{gave}
-
--- what was made of what a step gave
-made_of : {A B : Type 0} (m : Result A Refusal) (make : A → B) (b : B) → (m >>= (λ a. Ok (make a))) ≡ Ok b → (a : A) × (make a ≡ b)
-made_of (Ok a) make b is = let same : make a ≡ b = cc in (a, same)
-made_of (Err refusal) make b is = cc
-
-module _ (frame : Frame) where
-  item_is : (item : Item) (c : CheckedItem) → item_checked frame item ≡ Ok c → IsItemOf frame c
-  item_is item c is =
-      let value = made_of (typed (scope_of_frame frame) Point (out-Item item).expr) (item_typed frame (out-Item item).role (out-Item item).name) c is in
-      record { stated = (out-Item item).role; name = (out-Item item).name; value = value.0; is = sym value.1 }
-
-  items_are : (items : List Item) (cs : List CheckedItem) → items_checked frame items ≡ Ok cs → All (IsItemOf frame) cs
-  items_are [] cs is = let none : [] ≡ cs = cc in subst (All (IsItemOf frame)) none (All-nil (IsItemOf frame))
-  items_are (item ∷ items) cs is =
-      let first = gave (item_checked frame item) (λ c. items_checked frame items >>= (λ others. Ok (c ∷ others))) cs is in
-      let others = gave (items_checked frame items) (λ others. Ok (first.0 ∷ others)) cs first.2 in
-      subst (All (IsItemOf frame)) (same_list first.0 others.0 cs others.2) (All-cons (IsItemOf frame) first.0 others.0 (item_is item first.0 first.1) (items_are items others.0 others.1))
-    where
-      same_list : (c : CheckedItem) (others cs : List CheckedItem) → (Ok others >>= (λ others. Ok (c ∷ others))) ≡ Ok cs → (c ∷ others) ≡ cs
-      same_list c others cs h = cc
+use Rattle.join_typing.proofs.Items.{made_of, items_are}
 
 module _ (s : List Component) (is : IsStructure s) where
   abbrev IsLeft : CheckedClause → Type 0

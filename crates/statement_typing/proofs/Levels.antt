@@ -1,6 +1,7 @@
 -- What an expression is checked to be, from what stands in it.
 use Rattle.std.proofs.Common.{◌≡◌, ℕ, List, [], ◌∷◌, Option, Some, None, Result, refl, map, sym, ap, subst, ◌∙◌}
-use Rattle.std.specs.Prelude.{ℤ, ⊤}
+use Rattle.std.specs.Prelude.{ℤ, ⊤, ◌++◌}
+use Rattle.std.proofs.lemmas.List.{map-append}
 use Rattle.std.specs.Option.{option_map, option_to_list}
 use Rattle.vtl_syntax.proofs.Maps.{maps-Substr, maps-Replace, maps-Join, maps-Aggregate, maps-Check, range_maps}
 use Rattle.vtl_syntax.specs.declared.words.AggregateFunction.{AggregateFunction}
@@ -9,6 +10,7 @@ use Rattle.vtl_syntax.specs.declared.words.JoinFunction.{JoinFunction}
 use Rattle.vtl_syntax.specs.declared.words.SetFunction.{SetFunction}
 use Rattle.typing_rules.specs.declared.stop.Fault.TheVariants.{WrongStructure}
 use Rattle.typing_rules.specs.Steps.{refused}
+use Rattle.data_set_trees.specs.Joins.{alias_of, join_typed}
 use Rattle.data_set_trees.specs.Sets.{sets_typed}
 use Rattle.vtl_values.specs.declared.place.Place.{Place}
 use Rattle.vtl_syntax.specs.declared.expr.Clause.TheOpen.{Expr-F}
@@ -16,13 +18,14 @@ use Rattle.vtl_syntax.specs.declared.expr.Clause.{Clause}
 use Rattle.vtl_syntax.specs.declared.expr.Expr.{Expr, roll-Expr, map-Expr, para-roll-Expr}
 use Rattle.vtl_syntax.specs.declared.expr.Groups.{Groups}
 use Rattle.vtl_syntax.specs.declared.expr.Item.{Item}
-use Rattle.vtl_syntax.specs.declared.expr.JoinOperand.{JoinOperand, para-JoinOperand}
+use Rattle.vtl_syntax.specs.declared.expr.JoinOperand.{JoinOperand, out-JoinOperand, roll-out-JoinOperand, para-JoinOperand, para-roll-JoinOperand}
 use Rattle.vtl_syntax.specs.declared.expr.SubstrRange.{SubstrRange, out-SubstrRange, roll-out-SubstrRange, map-SubstrRange, para-SubstrRange, para-roll-SubstrRange}
 use Rattle.typing_rules.specs.declared.stop.TypeStop.{TypeStop}
 use Rattle.data_set_trees.specs.declared.operand.Operand.{Operand}
-use Rattle.data_set_trees.specs.Expressions.{Naming, Typing, RangeTyping, Level, typed_step, on_operands, operation_of, range_typings, typings, operand_step, range_step, typing, typed}
+use Rattle.data_set_trees.specs.Expressions.{Naming, Typing, RangeTyping, Level, typed_step, on_operands, operation_of, range_typings, typings, clauses_of, operand_step, range_step, typing, typed}
 use Rattle.data_set_trees.specs.declared.form.Form.TheVariants as form
 use Rattle.data_set_trees.specs.Trees.{SetAnswer}
+use Rattle.statement_typing.specs.Joins.{clauses_in, typing_of, join_on}
 use Rattle.statement_typing.specs.Parts.{Answers, of_optional, of_range, of_optional_range, after_all}
 
 abbrev pub operand_typing : JoinOperand → Typing
@@ -105,8 +108,36 @@ module _ (naming : Naming) where
   pub sets_level : (f : SetFunction) (a b : Expr) (es : List Expr) (p : Place) → after_all naming (typing a ∷ typing b ∷ map typing es) (sets_typed (operation_of f) p) ≡ typed_step (level_of (Expr-F.Sets f a b es p)) naming
   sets_level f a b es p = ap (λ (ts : List Typing). after_all naming (typing a ∷ typing b ∷ ts) (sets_typed (operation_of f) p)) (listed es)
 
-  pub join_level : (f : JoinFunction) (a b : JoinOperand) (cs : List JoinOperand) (u v w x : Option Clause) (p : Place) → refused WrongStructure p ≡ typed_step (level_of (Expr-F.Join f a b cs u v w x p)) naming
-  join_level f a b cs u v w x p = ap (λ (l : Level). typed_step l naming) (sym (maps-Join Clause Expr Groups Item JoinOperand SubstrRange (Clause × ⊤) (Expr × Typing) (Groups × ⊤) (Item × ⊤) (JoinOperand × Typing) (SubstrRange × RangeTyping) clause_part part groups_part item_part operand_part range_part f a b cs u v w x p))
+  operand_is : (o : JoinOperand) → typing_of o ≡ operand_typing o
+  operand_is o =
+      let x = out-JoinOperand o in
+      sym (ap operand_typing (sym (roll-out-JoinOperand o)) ∙ para-roll-JoinOperand ⊤ Typing ⊤ ⊤ Typing RangeTyping (λ clause. tt) typed_step (λ groups. tt) (λ item. tt) operand_step range_step x)
+
+  operands_are : (os : List JoinOperand) → map typing_of os ≡ map (λ (p : JoinOperand × Typing). p.1) (map operand_part os)
+  operands_are [] = refl
+  operands_are (o ∷ os) = λ i. operand_is o i ∷ operands_are os i
+
+  aliases_are : (os : List JoinOperand) → map alias_of os ≡ map (λ (p : JoinOperand × Typing). alias_of p.0) (map operand_part os)
+  aliases_are [] = refl
+  aliases_are (o ∷ os) = ap (λ (names : List (Option (List ℕ))). alias_of o ∷ names) (aliases_are os)
+
+  listed_one : (u : Option Clause) → option_to_list u ≡ map (λ (p : Clause × ⊤). p.0) (option_to_list (option_map clause_part u))
+  listed_one None = refl
+  listed_one (Some c) = refl
+
+  clauses_are : (u v w x : Option Clause) → clauses_in u v w x ≡ clauses_of (option_map clause_part u) (option_map clause_part v) (option_map clause_part w) (option_map clause_part x)
+  clauses_are u v w x =
+      let first = λ (p : Clause × ⊤). p.0 in
+      let list = λ (c : Option Clause). option_to_list (option_map clause_part c) in
+      (λ i. ((listed_one u i ++ listed_one v i) ++ listed_one w i) ++ listed_one x i)
+      ∙ (λ i. (sym (map-append first (list u) (list v)) i ++ map first (list w)) ++ map first (list x))
+      ∙ (λ i. sym (map-append first (list u ++ list v) (list w)) i ++ map first (list x))
+      ∙ sym (map-append first ((list u ++ list v) ++ list w) (list x))
+
+  pub join_level : (f : JoinFunction) (a b : JoinOperand) (cs : List JoinOperand) (u v w x : Option Clause) (p : Place) → join_on naming f p a b cs (clauses_in u v w x) ≡ typed_step (level_of (Expr-F.Join f a b cs u v w x p)) naming
+  join_level f a b cs u v w x p =
+      (λ i. after_all naming (operands_are (a ∷ b ∷ cs) i) (join_typed f p (aliases_are (a ∷ b ∷ cs) i) (clauses_are u v w x i)))
+      ∙ ap (λ (l : Level). typed_step l naming) (sym (maps-Join Clause Expr Groups Item JoinOperand SubstrRange (Clause × ⊤) (Expr × Typing) (Groups × ⊤) (Item × ⊤) (JoinOperand × Typing) (SubstrRange × RangeTyping) clause_part part groups_part item_part operand_part range_part f a b cs u v w x p))
 
   pub aggregate_level : (f : AggregateFunction) (a : Expr) (g : Option Groups) (p : Place) → refused WrongStructure p ≡ typed_step (level_of (Expr-F.Aggregate f a g p)) naming
   aggregate_level f a g p = ap (λ (l : Level). typed_step l naming) (sym (maps-Aggregate Clause Expr Groups Item JoinOperand SubstrRange (Clause × ⊤) (Expr × Typing) (Groups × ⊤) (Item × ⊤) (JoinOperand × Typing) (SubstrRange × RangeTyping) clause_part part groups_part item_part operand_part range_part f a g p))

@@ -1,3 +1,5 @@
+mod Aliases
+mod Inside
 mod Leaves
 mod Levels
 mod Operands

@@ -2,11 +2,13 @@
 use Rattle.std.proofs.Common.{◌≡◌, List, [], ◌∷◌, map, Ok, refl}
 use Rattle.vtl_syntax.specs.declared.expr.Expr.{Expr}
 use Rattle.vtl_syntax.specs.declared.expr.Item.{Item}
+use Rattle.vtl_syntax.specs.declared.expr.JoinOperand.{JoinOperand}
 use Rattle.typing_rules.specs.Steps.{◌>>=◌}
 use Rattle.clause_trees.specs.declared.frame.Frame.{Frame}
 use Rattle.data_set_trees.specs.Expressions.{Naming, typing, all_typed, typed}
 use Rattle.data_set_trees.specs.OnClauses.{item_checked, items_checked}
 use Rattle.data_set_parts.specs.Walks.{each}
+use Rattle.statement_typing.specs.Joins.{typing_of}
 
 pub operands_each : (naming : Naming) (trees : List Expr) → each (typed naming) trees ≡ all_typed (map typing trees) naming
 operands_each naming [] = refl
@@ -15,3 +17,7 @@ operands_each naming (tree ∷ trees) = λ i. typed naming tree >>= (λ o. opera
 pub items_each : (frame : Frame) (items : List Item) → each (item_checked frame) items ≡ items_checked frame items
 items_each frame [] = refl
 items_each frame (item ∷ items) = λ i. item_checked frame item >>= (λ c. items_each frame items i >>= (λ cs. Ok (c ∷ cs)))
+
+pub joined_each : (naming : Naming) (os : List JoinOperand) → each (λ o. typing_of o naming) os ≡ all_typed (map typing_of os) naming
+joined_each naming [] = refl
+joined_each naming (o ∷ os) = λ i. typing_of o naming >>= (λ d. joined_each naming os i >>= (λ ds. Ok (d ∷ ds)))

@@ -18,7 +18,7 @@ use vtl_syntax::Clause;
 use vtl_values::Place;
 
 /// The place of a clause's word.
-fn clause_place(clause: &Clause) -> Place
+pub(crate) fn clause_place(clause: &Clause) -> Place
     ensures { result ≡ place_of clause.now }
 {
     match clause {
@@ -34,7 +34,11 @@ fn clause_place(clause: &Clause) -> Place
 }
 
 /// A clause on a frame. `aggr` isn't built yet.
-fn clause_checked(alloc: Global, clause: &Clause, frame: &Frame) -> Result<CheckedClause, TypeStop>
+pub(crate) fn clause_checked(
+    alloc: Global,
+    clause: &Clause,
+    frame: &Frame,
+) -> Result<CheckedClause, TypeStop>
     ensures { Answers (meant.clause_checked clause.now frame.now) result }
 {
     match clause {

@@ -10,6 +10,7 @@ ghost use Rattle.statement_typing.specs.Names.{naming_of};
 ghost use Rattle.statement_typing.specs.Parts.{Answers, TypesParts};
 
 use crate::checker::Checker;
+use crate::joins::Clauses;
 use crate::names::Names;
 use crate::tables::{difference_of, form_of_function, operation_of};
 use data_set_trees::Operand;
@@ -176,7 +177,29 @@ impl<F: Fn(Global, &Names<'_>, &Expr) -> Result<Operand, TypeStop> + Copy> Check
                 right,
                 place,
             } => self.two_sets(difference_of(*function), left, right, *place),
-            Expr::Join { place, .. } => unbuilt(*place),
+            Expr::Join {
+                function,
+                first,
+                second,
+                others,
+                filter,
+                calc,
+                keep,
+                rename,
+                place,
+            } => self.join(
+                *function,
+                first.get(),
+                second.get(),
+                others.as_slice(),
+                Clauses {
+                    filter,
+                    calc,
+                    keep,
+                    rename,
+                },
+                *place,
+            ),
             Expr::Aggregate { place, .. } => unbuilt(*place),
             Expr::Window { place, .. } => unbuilt(*place),
             Expr::CountAll { place } => unbuilt(*place),

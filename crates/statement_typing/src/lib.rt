@@ -1,9 +1,9 @@
 //! What an expression outside of clauses is checked to be, a data set or a scalar, or its first fault.
 //!
-//! It stands on `data_set_trees` for the trees and the definitions, on `data_set_typing` and `set_typing` for operators, and
-//! on `clause_typing` and `component_typing` for clauses and the expressions in them. `names` has what the names of data
-//! sets stand for. `checker` types one level of an expression, by `operators`, `data_sets` and `clauses`; `level` has one row
-//! for each form, and `expression` adds the walk over the tree.
+//! It stands on `data_set_trees` for the trees and the definitions, on `data_set_typing`, `set_typing` and `join_typing` for
+//! operators, and on `clause_typing` and `component_typing` for clauses and the expressions in them. `names` has what the
+//! names of data sets stand for. `checker` types one level of an expression, by `operators`, `data_sets`, `joins` and
+//! `clauses`; `level` has one row for each form, and `expression` adds the walk over the tree.
 //!
 //! The contract of `check_expression` promises that an answer is exactly the operand that `data_set_trees` says
 //! (`specs/Expressions.antt`, `typed`), where names stand for what `specs/Names.antt` says, and that an error is exactly the
@@ -16,6 +16,7 @@ mod data_sets;
 mod expression;
 mod forms;
 mod items;
+mod joins;
 mod level;
 mod names;
 mod operators;

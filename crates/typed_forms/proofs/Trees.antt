@@ -1,5 +1,6 @@
 -- Forms that have lists in them.
-use Rattle.std.proofs.Common.{◌≡◌, ℕ, Bool, ◌&&◌, List, sym, ap, ◌∙◌}
+use Rattle.std.proofs.Common.{◌≡◌, refl, ℕ, Bool, ◌&&◌, List, Option, Some, None, sym, ap, ◌∙◌}
+use Rattle.std.specs.Prelude.{option_map}
 use Rattle.std.specs.List.{list_all}
 use Rattle.std.proofs.lemmas.List.Folds.{list_all-map}
 use Rattle.vtl_values.specs.declared.place.Place.{Place}
@@ -9,19 +10,18 @@ use Rattle.vtl_syntax.specs.declared.expr.Clause.{Clause, map-Clause, roll-Claus
 use Rattle.vtl_syntax.specs.declared.expr.Clause.TheVariants as clause
 use Rattle.vtl_syntax.specs.declared.expr.Groups.{Groups, fold-Groups}
 use Rattle.vtl_syntax.specs.declared.expr.Item.{Item}
-use Rattle.vtl_syntax.specs.declared.expr.JoinOperand.{JoinOperand, fold-JoinOperand}
+use Rattle.vtl_syntax.specs.declared.expr.JoinOperand.{JoinOperand}
 use Rattle.vtl_syntax.specs.declared.expr.SubstrRange.{SubstrRange}
 use Rattle.vtl_syntax.specs.declared.expr.Clause.TheOpen.{Expr-F, Clause-F}
+use Rattle.vtl_syntax.specs.declared.words.JoinFunction.{JoinFunction}
 use Rattle.vtl_syntax.specs.declared.words.SetFunction.{SetFunction}
+use Rattle.vtl_syntax.proofs.Maps.{maps-Join}
 use Rattle.typed_forms.specs.declared.stand.Stand.{Stand}
 use Rattle.typed_forms.specs.declared.stand.Stand.TheVariants.{Item as Whole}
-use Rattle.typed_forms.specs.Forms.{Typed, of_part, expr_step, clause_step, groups_step, item_step, operand_step, range_step, expr_typed, clause_typed, item_typed, range_typed}
+use Rattle.typed_forms.specs.Forms.{Typed, of_part, if_given, if_typed, all_typed, expr_step, clause_step, groups_step, item_step, operand_step, range_step, expr_typed, clause_typed, item_typed, operand_typed, range_typed}
 
 abbrev groups_typed : Groups → Typed
 groups_typed = fold-Groups Typed Typed Typed Typed Typed Typed clause_step expr_step groups_step item_step operand_step range_step
-
-abbrev operand_typed : JoinOperand → Typed
-operand_typed = fold-JoinOperand Typed Typed Typed Typed Typed Typed clause_step expr_step groups_step item_step operand_step range_step
 
 told : (x : Expr-F Clause Expr Groups Item JoinOperand SubstrRange) (e : Expr) (at : Stand) → roll-Expr x ≡ e → expr_typed e at ≡ expr_step (map-Expr Clause Expr Groups Item JoinOperand SubstrRange Typed Typed Typed Typed Typed Typed clause_typed expr_typed groups_typed item_typed operand_typed range_typed x) at
 told x e at is = ap (λ (d : Expr). expr_typed d at) (sym is) ∙ ap (λ (m : Typed). m at) (fold-roll-Expr Typed Typed Typed Typed Typed Typed clause_step expr_step groups_step item_step operand_step range_step x)
@@ -38,3 +38,19 @@ pub calc-typed : (is : List Item) (p : Place) (at : Stand) → clause_typed (cla
 calc-typed is p at =
     clause_told (Clause-F.Calc is p) (clause.Calc is p) at (clause.rolls-Calc is p)
     ∙ list_all-map (λ (t : Typed). t Whole) item_typed is
+
+given_typed : (c : Option Clause) (at : Stand) → if_typed (option_map clause_typed c) at ≡ if_given (λ (d : Clause). clause_typed d at) c
+given_typed None at = refl
+given_typed (Some c) at = refl
+
+pub join-typed : (f : JoinFunction) (a b : JoinOperand) (cs : List JoinOperand) (u v w x : Option Clause) (p : Place) (at : Stand)
+    → expr_typed (tree.Join f a b cs u v w x p) at
+    ≡ ((operand_typed a (of_part at) && (operand_typed b (of_part at) && list_all (λ (o : JoinOperand). operand_typed o (of_part at)) cs))
+    && (if_given (λ (c : Clause). clause_typed c (of_part at)) u && (if_given (λ (c : Clause). clause_typed c (of_part at)) v && (if_given (λ (c : Clause). clause_typed c (of_part at)) w && if_given (λ (c : Clause). clause_typed c (of_part at)) x))))
+join-typed f a b cs u v w x p at =
+    let part = of_part at in
+    let own = operand_typed a part in
+    let its = operand_typed b part in
+    told (Expr-F.Join f a b cs u v w x p) (tree.Join f a b cs u v w x p) at (tree.rolls-Join f a b cs u v w x p)
+    ∙ ap (λ (l : Expr-F Typed Typed Typed Typed Typed Typed). expr_step l at) (maps-Join Clause Expr Groups Item JoinOperand SubstrRange Typed Typed Typed Typed Typed Typed clause_typed expr_typed groups_typed item_typed operand_typed range_typed f a b cs u v w x p)
+    ∙ (λ i. (own && (its && list_all-map (λ (t : Typed). t part) operand_typed cs i)) && (given_typed u part i && (given_typed v part i && (given_typed w part i && given_typed x part i))))

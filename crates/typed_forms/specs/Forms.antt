@@ -4,6 +4,7 @@ use Rattle.std.specs.List.{list_all}
 use Rattle.vtl_syntax.specs.declared.expr.Clause.{Clause, fold-Clause}
 use Rattle.vtl_syntax.specs.declared.expr.Expr.{Expr, fold-Expr}
 use Rattle.vtl_syntax.specs.declared.expr.Item.{Item, fold-Item}
+use Rattle.vtl_syntax.specs.declared.expr.JoinOperand.{JoinOperand, fold-JoinOperand}
 use Rattle.vtl_syntax.specs.declared.expr.SubstrRange.{SubstrRange, fold-SubstrRange}
 use Rattle.vtl_syntax.specs.declared.expr.Clause.TheOpen.{Clause-F, Expr-F, Groups-F, Item-F, JoinOperand-F, SubstrRange-F}
 use Rattle.vtl_syntax.specs.declared.script.Script.{Script}
@@ -47,7 +48,7 @@ all_typed ts at = list_all (λ (t : Typed). t at) ts
 abbrev pub if_typed : Option Typed → Typed
 if_typed t at = if_given (λ (u : Typed). u at) t
 
--- Joins, aggregates, checks and time operators aren't typed yet; in a clause they have no place, and are refused. Nor are
+-- Aggregates, checks and time operators aren't typed yet; in a clause they have no place, and are refused. Nor are
 -- analytic operators, which have a place in a clause only as a whole item of `calc`. Calls of defined operators are
 -- written out before.
 abbrev pub expr_step : Expr-F Typed Typed Typed Typed Typed Typed → Typed
@@ -74,7 +75,7 @@ expr_step (Expr-F.Replace a b c p) at = a (of_part at) && (b (of_part at) && if_
 expr_step (Expr-F.ExistsIn a b r p) at = a (of_part at) && b (of_part at)
 expr_step (Expr-F.Sets f a b cs p) at = a (of_part at) && (b (of_part at) && all_typed cs (of_part at))
 expr_step (Expr-F.Difference f a b p) at = a (of_part at) && b (of_part at)
-expr_step (Expr-F.Join f a b cs u v w x p) at = is_in_clause at
+expr_step (Expr-F.Join f a b cs u v w x p) at = (a (of_part at) && (b (of_part at) && all_typed cs (of_part at))) && (if_typed u (of_part at) && (if_typed v (of_part at) && (if_typed w (of_part at) && if_typed x (of_part at))))
 expr_step (Expr-F.Aggregate f a g p) at = is_in_clause at
 expr_step (Expr-F.Window f a o p) at = is_inside at
 expr_step (Expr-F.CountAll p) at = is_in_clause at
@@ -108,7 +109,7 @@ abbrev pub item_step : Item-F Typed Typed Typed Typed Typed Typed → Typed
 item_step i = i.expr
 
 abbrev pub operand_step : JoinOperand-F Typed Typed Typed Typed Typed Typed → Typed
-operand_step o at = true
+operand_step o = o.expr
 
 abbrev pub range_step : SubstrRange-F Typed Typed Typed Typed Typed Typed → Typed
 range_step r at = r.start at && if_typed r.length at
@@ -123,6 +124,9 @@ clause_typed = fold-Clause Typed Typed Typed Typed Typed Typed clause_step expr_
 
 abbrev pub item_typed : Item → Typed
 item_typed = fold-Item Typed Typed Typed Typed Typed Typed clause_step expr_step groups_step item_step operand_step range_step
+
+abbrev pub operand_typed : JoinOperand → Typed
+operand_typed = fold-JoinOperand Typed Typed Typed Typed Typed Typed clause_step expr_step groups_step item_step operand_step range_step
 
 abbrev pub range_typed : SubstrRange → Typed
 range_typed = fold-SubstrRange Typed Typed Typed Typed Typed Typed clause_step expr_step groups_step item_step operand_step range_step

@@ -6,7 +6,22 @@ ghost use Rattle.typed_forms.specs.declared.stand.Stand.TheVariants as Stand;
 
 use crate::stand::Stand;
 use sqlite_items::Boxed;
-use vtl_syntax::{Clause, Expr, Item, Script, Statement, SubstrRange};
+use vtl_syntax::{Clause, Expr, Item, JoinOperand, Script, Statement, SubstrRange};
+
+fn both(first: bool, second: bool) -> bool
+    ensures { result ≡ (first && second) }
+{
+    first && second
+}
+
+/// The clauses inside a join.
+#[derive(Clone, Copy)]
+struct Clauses<'a> {
+    filter: &'a Option<Boxed<Clause>>,
+    calc: &'a Option<Boxed<Clause>>,
+    keep: &'a Option<Boxed<Clause>>,
+    rename: &'a Option<Boxed<Clause>>,
+}
 
 /// Whether all forms in an expression are typed, where it stands there.
 #[cycle(walk)]
@@ -56,7 +71,28 @@ fn expr(tree: &Expr, at: Stand) -> bool
             ..
         } => sets(first.get(), second.get(), others.as_slice(), at.of_part()),
         Expr::Difference { left, right, .. } => two(left.get(), right.get(), at.of_part()),
-        Expr::Join { .. } => at.is_in_clause(),
+        Expr::Join {
+            first,
+            second,
+            others,
+            filter,
+            calc,
+            keep,
+            rename,
+            ..
+        } => {
+            let part = at.of_part();
+            let clauses = Clauses {
+                filter,
+                calc,
+                keep,
+                rename,
+            };
+            both(
+                operands_typed(first.get(), second.get(), others.as_slice(), part),
+                clauses_typed(clauses, part),
+            )
+        }
         Expr::Aggregate { .. } => at.is_in_clause(),
         Expr::Window { .. } => at.is_inside(),
         Expr::CountAll { .. } => at.is_in_clause(),
@@ -179,6 +215,56 @@ fn clause_typed(clause: &Clause, at: Stand) -> bool
 }
 
 #[cycle(walk)]
+fn if_typed(clause: &Option<Boxed<Clause>>, at: Stand) -> bool
+    ensures { result ≡ meant.if_given (λ c. meant.clause_typed c at) clause.now }
+{
+    match clause {
+        Some(clause) => clause_typed(clause.get(), at),
+        None => true,
+    }
+}
+
+#[cycle(walk)]
+fn clauses_typed(clauses: Clauses<'_>, at: Stand) -> bool
+    ensures { result ≡ (meant.if_given (λ c. meant.clause_typed c at) clauses.entry.filter.now && (meant.if_given (λ c. meant.clause_typed c at) clauses.entry.calc.now && (meant.if_given (λ c. meant.clause_typed c at) clauses.entry.keep.now && meant.if_given (λ c. meant.clause_typed c at) clauses.entry.rename.now))) }
+{
+    if_typed(clauses.filter, at)
+        && (if_typed(clauses.calc, at)
+            && (if_typed(clauses.keep, at) && if_typed(clauses.rename, at)))
+}
+
+#[cycle(walk)]
+fn operand_typed(operand: &JoinOperand, at: Stand) -> bool
+    ensures { result ≡ meant.operand_typed operand.now at }
+{
+    expr(operand.expr.get(), at)
+}
+
+#[cycle(walk)]
+fn each_operand_typed(operands: &[JoinOperand], at: Stand) -> bool
+    ensures { result ≡ list_all (λ o. meant.operand_typed o at) operands.now }
+{
+    for operand in operands {
+        if !operand_typed(operand, at) {
+            return false;
+        }
+    }
+    true
+}
+
+#[cycle(walk)]
+fn operands_typed(
+    first: &JoinOperand,
+    second: &JoinOperand,
+    others: &[JoinOperand],
+    at: Stand,
+) -> bool
+    ensures { result ≡ (meant.operand_typed first.now at && (meant.operand_typed second.now at && list_all (λ o. meant.operand_typed o at) others.now)) }
+{
+    operand_typed(first, at) && (operand_typed(second, at) && each_operand_typed(others, at))
+}
+
+#[cycle(walk)]
 fn items_typed(items: &[Item]) -> bool
     ensures { result ≡ list_all (λ i. meant.item_typed i Stand.Item) items.now }
 {
@@ -208,7 +294,7 @@ fn statements_typed(statements: &[Statement]) -> bool
     true
 }
 
-/// Whether the script has no rulesets, and no form that isn't typed yet: outside of clauses no join, aggregate, analytic
+/// Whether the script has no rulesets, and no form that isn't typed yet: outside of clauses no aggregate, analytic
 /// operator, check or time operator, and no clause `aggr`; no analytic operator as a whole item of `calc`; and no call of a
 /// defined operator. Into a form that is refused in a clause in any case it doesn't look. Each expression is looked at once.
 pub fn can_be_typed(script: &Script) -> bool

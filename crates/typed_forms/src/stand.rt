@@ -24,6 +24,7 @@ impl Stand {
         }
     }
 
+    /// Whether it stands in a clause, at its top or deeper.
     pub fn is_in_clause(self) -> bool
         ensures { result ≡ meant.is_in_clause self }
     {
@@ -33,6 +34,7 @@ impl Stand {
         }
     }
 
+    /// Whether it stands in a clause and is not the whole expression of an item.
     pub fn is_inside(self) -> bool
         ensures { result ≡ meant.is_inside self }
     {

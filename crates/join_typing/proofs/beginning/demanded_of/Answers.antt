@@ -9,12 +9,12 @@ pub returns-clause-ok : goal.returns-clause-ok
 returns-clause-ok c =
     let meant = demanded_of c.args.place c.args.may (map aliased c.args.operands.now) c.args.frame.now in
     let of = λ (differ room : Bool). demands c.args.place ((c.args.may, WrongStructure) ∷ (differ, NameTwice) ∷ (room, TooManyComponents) ∷ []) in
-    let same : of c.all_differ.result c.has_room.result ≡ meant = λ i. of (c.all_differ.ensures i) (c.has_room.ensures i) in
-    ok_same (of c.all_differ.result c.has_room.result) meant c.demands.result same c.demands.ensures.ok
+    let same : of c.in_ok-differ.differ c.has_room.result ≡ meant = λ i. of (c.in_ok-differ.ensures i) (c.has_room.ensures i) in
+    ok_same (of c.in_ok-differ.differ c.has_room.result) meant c.demands.result same c.demands.ensures.ok
 
 pub returns-clause-err : goal.returns-clause-err
 returns-clause-err c =
     let meant = demanded_of c.args.place c.args.may (map aliased c.args.operands.now) c.args.frame.now in
     let of = λ (differ room : Bool). demands c.args.place ((c.args.may, WrongStructure) ∷ (differ, NameTwice) ∷ (room, TooManyComponents) ∷ []) in
-    let same : of c.all_differ.result c.has_room.result ≡ meant = λ i. of (c.all_differ.ensures i) (c.has_room.ensures i) in
-    err_same (of c.all_differ.result c.has_room.result) meant c.demands.result same c.demands.ensures.err
+    let same : of c.in_ok-differ.differ c.has_room.result ≡ meant = λ i. of (c.in_ok-differ.ensures i) (c.has_room.ensures i) in
+    err_same (of c.in_ok-differ.differ c.has_room.result) meant c.demands.result same c.demands.ensures.err

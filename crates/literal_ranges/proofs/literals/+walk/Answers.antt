@@ -1,7 +1,7 @@
-use Rattle.std.proofs.Common.{◌≡◌, ◌&&◌, ◌∙◌}
+use Rattle.std.proofs.Common.{◌≡◌, Bool, ◌&&◌, ap, ◌∙◌}
 use Rattle.std.specs.List.{list_all}
-use Rattle.literal_ranges.specs.Ranges.{literals_in_range, clause_in_range, item_in_range}
-use Rattle.literal_ranges.proofs.Levels.{of-Sets, of-Calc}
+use Rattle.literal_ranges.specs.Ranges.{literals_in_range, clause_in_range, item_in_range, operand_in_range}
+use Rattle.literal_ranges.proofs.Levels.{clauses_in_range, of-Sets, of-Join, of-Calc}
 use Rattle.literal_ranges.proofs.literals.+walk.Goals as goal
 
 pub see_clause-returns-in-Calc : goal.see_clause-returns-in-Calc
@@ -15,3 +15,11 @@ see_literals-returns-in-Sets t c =
     let is : literals_in_range c.args.tree.now ≡ (literals_in_range c.get-in-Sets.result.now && (literals_in_range c.get-in-Sets-2.result.now && list_all literals_in_range others)) =
     rw (c.get-in-Sets.ensures, c.get-in-Sets-2.ensures, c.as_slice-in-Sets.ensures, c.in-Sets.is) (of-Sets c.in-Sets.function c.in-Sets.first c.in-Sets.second c.in-Sets.others c.in-Sets.place) in
     is ∙ c.see_sets.ensures
+
+pub see_literals-returns-in-Join : goal.see_literals-returns-in-Join
+see_literals-returns-in-Join t c =
+    let others = c.as_slice-in-Join.result.now in
+    let clauses = clauses_in_range c.in-Join.filter c.in-Join.calc c.in-Join.keep c.in-Join.rename in
+    let is : literals_in_range c.args.tree.now ≡ ((operand_in_range c.get-in-Join.result.now && (operand_in_range c.get-in-Join-2.result.now && list_all operand_in_range others)) && clauses) =
+    rw (c.get-in-Join.ensures, c.get-in-Join-2.ensures, c.as_slice-in-Join.ensures, c.in-Join.is) (of-Join c.in-Join.function c.in-Join.first c.in-Join.second c.in-Join.others c.in-Join.filter c.in-Join.calc c.in-Join.keep c.in-Join.rename c.in-Join.place) in
+    is ∙ ap (λ (b : Bool). b && clauses) c.see_operands.ensures ∙ c.see_clauses.ensures

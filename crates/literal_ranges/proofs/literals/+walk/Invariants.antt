@@ -5,8 +5,9 @@ use denote.Param.Weighed.{most}
 use Rattle.vtl_syntax.specs.declared.expr.Expr.{size-Expr}
 use Rattle.vtl_syntax.specs.declared.expr.Clause.{size-Clause}
 use Rattle.vtl_syntax.specs.declared.expr.Item.{size-Item}
+use Rattle.vtl_syntax.specs.declared.expr.JoinOperand.{size-JoinOperand}
 use Rattle.vtl_syntax.specs.declared.expr.SubstrRange.{size-SubstrRange}
-use Rattle.literal_ranges.specs.Ranges.{literals_in_range, item_in_range}
+use Rattle.literal_ranges.specs.Ranges.{literals_in_range, item_in_range, operand_in_range}
 use Rattle.literal_ranges.proofs.Levels.{if_some}
 use Rattle.literal_ranges.proofs.literals.+walk.Given as goal
 
@@ -63,3 +64,21 @@ decreases-see_item l = 8 * size-Item l.item.now
 
 abbrev pub decreases-see_items : goal.decreases-see_items
 decreases-see_items l = 8 * most size-Item l.items.now + 1
+
+abbrev pub invariant-see_each_operand-loop-operand : goal.invariant-see_each_operand-loop-operand
+invariant-see_each_operand-loop-operand l = list_all operand_in_range (take l.operand-index l.operands) ≡ true
+
+abbrev pub decreases-see_if_given : goal.decreases-see_if_given
+decreases-see_if_given l = 8 * if_some size-Clause l.clause.now + 1
+
+abbrev pub decreases-see_clauses : goal.decreases-see_clauses
+decreases-see_clauses l = 8 * max (max (if_some size-Clause l.filter.now) (if_some size-Clause l.calc.now)) (max (if_some size-Clause l.keep.now) (if_some size-Clause l.rename.now)) + 2
+
+abbrev pub decreases-see_operand : goal.decreases-see_operand
+decreases-see_operand l = 8 * size-JoinOperand l.operand.now
+
+abbrev pub decreases-see_each_operand : goal.decreases-see_each_operand
+decreases-see_each_operand l = 8 * most size-JoinOperand l.operands.now + 1
+
+abbrev pub decreases-see_operands : goal.decreases-see_operands
+decreases-see_operands l = 8 * max (max (size-JoinOperand l.first.now) (size-JoinOperand l.second.now)) (most size-JoinOperand l.others.now) + 2

@@ -6,7 +6,7 @@ use Rattle.vtl_syntax.specs.declared.expr.Item.{Item}
 use Rattle.typed_forms.specs.declared.stand.Stand.{Stand}
 use Rattle.typed_forms.specs.declared.stand.Stand.TheVariants.{Item as Whole}
 use Rattle.typed_forms.specs.Forms.{expr_typed, clause_typed, item_typed}
-use Rattle.typed_forms.proofs.Trees.{sets-typed, calc-typed}
+use Rattle.typed_forms.proofs.Trees.{sets-typed, join-typed, calc-typed}
 use Rattle.typed_forms.proofs.forms.+walk.Goals as goal
 
 pub clause_typed-returns-in-Calc : goal.clause_typed-returns-in-Calc
@@ -27,3 +27,9 @@ expr-returns-in-Sets t c =
     ∙ ap (test c.in-Sets.first c.in-Sets.second c.in-Sets.others) c.of_part-in-Sets.ensures
     ∙ sym (sets-typed c.in-Sets.function c.in-Sets.first c.in-Sets.second c.in-Sets.others c.in-Sets.place c.args.at)
     ∙ ap (λ (d : Expr). expr_typed d c.args.at) (sym c.in-Sets.is)
+
+pub expr-returns-in-Join : goal.expr-returns-in-Join
+expr-returns-in-Join t c =
+    c.both.ensures
+    ∙ (λ i. c.operands_typed.ensures i && c.clauses_typed.ensures i)
+    ∙ sym (rw (c.get-in-Join.ensures, c.get-in-Join-2.ensures, c.as_slice-in-Join.ensures, c.of_part-part.ensures, c.in-Join.is) (join-typed c.in-Join.function c.in-Join.first c.in-Join.second c.in-Join.others c.in-Join.filter c.in-Join.calc c.in-Join.keep c.in-Join.rename c.in-Join.place c.args.at))

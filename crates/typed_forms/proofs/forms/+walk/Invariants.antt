@@ -5,9 +5,10 @@ use denote.Param.Weighed.{most}
 use Rattle.vtl_syntax.specs.declared.expr.Expr.{Expr, size-Expr}
 use Rattle.vtl_syntax.specs.declared.expr.Clause.{size-Clause}
 use Rattle.vtl_syntax.specs.declared.expr.Item.{Item, size-Item}
+use Rattle.vtl_syntax.specs.declared.expr.JoinOperand.{JoinOperand, size-JoinOperand}
 use Rattle.vtl_syntax.specs.declared.expr.SubstrRange.{size-SubstrRange}
 use Rattle.typed_forms.specs.declared.stand.Stand.TheVariants.{Item as Whole}
-use Rattle.typed_forms.specs.Forms.{expr_typed, item_typed}
+use Rattle.typed_forms.specs.Forms.{expr_typed, item_typed, operand_typed}
 use Rattle.typed_forms.proofs.Measures.{if_some}
 use Rattle.typed_forms.proofs.forms.+walk.Given as goal
 
@@ -61,3 +62,21 @@ decreases-items_typed l = 8 * most size-Item l.items.now + 1
 
 abbrev pub decreases-item_typed : goal.decreases-item_typed
 decreases-item_typed l = 8 * size-Item l.item.now
+
+abbrev pub invariant-each_operand_typed-loop-operand : goal.invariant-each_operand_typed-loop-operand
+invariant-each_operand_typed-loop-operand l = list_all (λ (o : JoinOperand). operand_typed o l.at) l.operands ≡ list_all (λ (o : JoinOperand). operand_typed o l.at) (drop l.operand-index l.operands)
+
+abbrev pub decreases-if_typed : goal.decreases-if_typed
+decreases-if_typed l = 8 * if_some size-Clause l.clause.now + 1
+
+abbrev pub decreases-clauses_typed : goal.decreases-clauses_typed
+decreases-clauses_typed l = 8 * max (max (if_some size-Clause l.clauses.filter.now) (if_some size-Clause l.clauses.calc.now)) (max (if_some size-Clause l.clauses.keep.now) (if_some size-Clause l.clauses.rename.now)) + 2
+
+abbrev pub decreases-operand_typed : goal.decreases-operand_typed
+decreases-operand_typed l = 8 * size-JoinOperand l.operand.now
+
+abbrev pub decreases-each_operand_typed : goal.decreases-each_operand_typed
+decreases-each_operand_typed l = 8 * most size-JoinOperand l.operands.now + 1
+
+abbrev pub decreases-operands_typed : goal.decreases-operands_typed
+decreases-operands_typed l = 8 * max (max (size-JoinOperand l.first.now) (size-JoinOperand l.second.now)) (most size-JoinOperand l.others.now) + 2

@@ -2,6 +2,7 @@ use Rattle.std.proofs.Common.{List, [], ◌∷◌, map, Ok, refl, sym, ap, ◌�
 use Rattle.vtl_syntax.specs.declared.expr.Expr.TheVariants as tree
 use Rattle.vtl_syntax.specs.declared.expr.Clause.TheOpen.{Expr-F}
 use Rattle.vtl_syntax.specs.declared.expr.Expr.{Expr}
+use Rattle.vtl_syntax.specs.declared.expr.JoinOperand.{JoinOperand}
 use Rattle.vtl_values.specs.declared.value.Value.{Value}
 use Rattle.typing_rules.specs.Scalars.{literal_typed}
 use Rattle.scalar_trees.specs.declared.operators.UnaryOperator.{UnaryOperator}
@@ -19,6 +20,7 @@ use Rattle.data_set_trees.specs.Exists.{exists_typed}
 use Rattle.data_set_trees.specs.Sets.{sets_typed}
 use Rattle.data_set_trees.specs.OnClauses.{on_clause}
 use Rattle.data_set_trees.specs.Expressions as meant
+use Rattle.statement_typing.specs.Joins.{clauses_in, join_on}
 use Rattle.statement_typing.specs.Names.{naming_of}
 use Rattle.statement_typing.specs.Parts.{after_one, after_all, of_optional, of_optional_range}
 use Rattle.statement_typing.proofs.Levels.{answers_level, substr_level, replace_level, sets_level, join_level, aggregate_level, check_level}
@@ -95,14 +97,19 @@ returns-in-Difference g c =
 pub returns-in-Join : goal.returns-in-Join
 returns-in-Join g c =
     let naming = naming_of c.args.self.now.names.now in
-    let value : SetAnswer = refused WrongStructure c.in-Join.place in
-    answers_level naming (Expr-F.Join c.in-Join.function c.in-Join.first c.in-Join.second c.in-Join.others c.in-Join.filter c.in-Join.calc c.in-Join.keep c.in-Join.rename c.in-Join.place) c.args.self.now.tree.now value c.unbuilt.result (tree.rolls-Join c.in-Join.function c.in-Join.first c.in-Join.second c.in-Join.others c.in-Join.filter c.in-Join.calc c.in-Join.keep c.in-Join.rename c.in-Join.place ∙ sym c.in-Join.is) (join_level naming c.in-Join.function c.in-Join.first c.in-Join.second c.in-Join.others c.in-Join.filter c.in-Join.calc c.in-Join.keep c.in-Join.rename c.in-Join.place) c.unbuilt.ensures
+    let cs = clauses_in c.in-Join.filter c.in-Join.calc c.in-Join.keep c.in-Join.rename in
+    let m : JoinOperand → JoinOperand → List JoinOperand → SetAnswer = λ a b others. join_on naming c.in-Join.function c.in-Join.place a b others cs in
+    let value = m c.get.result.now c.get-in-Join.result.now c.as_slice-in-Join.result.now in
+    answers_level naming (Expr-F.Join c.in-Join.function c.in-Join.first c.in-Join.second c.in-Join.others c.in-Join.filter c.in-Join.calc c.in-Join.keep c.in-Join.rename c.in-Join.place) c.args.self.now.tree.now value c.join.result
+    (tree.rolls-Join c.in-Join.function c.in-Join.first c.in-Join.second c.in-Join.others c.in-Join.filter c.in-Join.calc c.in-Join.keep c.in-Join.rename c.in-Join.place ∙ sym c.in-Join.is)
+    ((λ i. m (c.get.ensures i) (c.get-in-Join.ensures i) (c.as_slice-in-Join.ensures i)) ∙ join_level naming c.in-Join.function c.in-Join.first c.in-Join.second c.in-Join.others c.in-Join.filter c.in-Join.calc c.in-Join.keep c.in-Join.rename c.in-Join.place)
+    c.join.ensures
 
 pub returns-in-Aggregate : goal.returns-in-Aggregate
 returns-in-Aggregate g c =
     let naming = naming_of c.args.self.now.names.now in
     let value : SetAnswer = refused WrongStructure c.in-Aggregate.place in
-    answers_level naming (Expr-F.Aggregate c.in-Aggregate.function c.in-Aggregate.operand c.in-Aggregate.groups c.in-Aggregate.place) c.args.self.now.tree.now value c.unbuilt-in-Aggregate.result (tree.rolls-Aggregate c.in-Aggregate.function c.in-Aggregate.operand c.in-Aggregate.groups c.in-Aggregate.place ∙ sym c.in-Aggregate.is) (aggregate_level naming c.in-Aggregate.function c.in-Aggregate.operand c.in-Aggregate.groups c.in-Aggregate.place) c.unbuilt-in-Aggregate.ensures
+    answers_level naming (Expr-F.Aggregate c.in-Aggregate.function c.in-Aggregate.operand c.in-Aggregate.groups c.in-Aggregate.place) c.args.self.now.tree.now value c.unbuilt.result (tree.rolls-Aggregate c.in-Aggregate.function c.in-Aggregate.operand c.in-Aggregate.groups c.in-Aggregate.place ∙ sym c.in-Aggregate.is) (aggregate_level naming c.in-Aggregate.function c.in-Aggregate.operand c.in-Aggregate.groups c.in-Aggregate.place) c.unbuilt.ensures
 
 pub returns-in-Check : goal.returns-in-Check
 returns-in-Check g c =
