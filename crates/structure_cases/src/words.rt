@@ -3,6 +3,7 @@ use anyhow::Result;
 use std::alloc::Global;
 use vtl_values::{Component, Kind, Role, Structure};
 
+/// The word of a kind, as a structure file has it.
 pub fn kind_word(kind: Kind) -> &'static str {
     match kind {
         Kind::Integer => "integer",
