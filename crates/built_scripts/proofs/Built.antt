@@ -9,7 +9,7 @@ use Rattle.checked_trees.specs.Operators.{IsTyped, TakesOperands}
 use Rattle.checked_trees.specs.Expressions.{Expression, Expressions, Named, Applied, none, more, expression_of, expressions}
 use Rattle.checked_trees.specs.Scripts.{FitsStatement, IsChecked, IsTypedScript, Script, structure_of_source}
 use Rattle.checked_trees.specs.Typing.{Fits, AllFit}
-use Rattle.built_scripts.specs.Built.{all_built, each_all_built, is_tree_built, AreStructured, EachStructured, IsStatementStructured, IsTreeStructured}
+use Rattle.built_scripts.specs.Built.{each_all_built, is_tree_built, AreStructured, EachStructured, IsStatementStructured, IsTreeStructured}
 
 -- ---- operands
 

@@ -2,19 +2,29 @@
 use Rattle.std.specs.Prelude.{◌≡◌, Bool, true, false, ◌&&◌, ⊤}
 use Rattle.std.specs.List.{All, list_all}
 use Rattle.vtl_values.specs.Structures.{IsStructure}
-use Rattle.vtl_syntax.specs.declared.words.JoinFunction.TheVariants.{Inner, Cross}
 use Rattle.data_set_trees.specs.declared.tree.DataSetOperator.{DataSetOperator}
-use Rattle.data_set_trees.specs.declared.tree.DataSetOperator.TheVariants.{Join}
+use Rattle.data_set_trees.specs.declared.tree.DataSetOperator.TheVariants.{Clause, Pair, Choice, ExistsIn, Set, Join, InJoin, Aggregate, Window, WindowInJoin, Time, Check, Datapoint, Hierarchy}
 use Rattle.data_set_trees.specs.declared.tree.DataSetTree.{DataSetTree}
 use Rattle.checked_trees.specs.declared.script.CheckedStatement.{CheckedStatement}
 use Rattle.checked_trees.specs.Expressions.{Expression, Expressions, Named, Applied, none, more, expression_of}
 use Rattle.checked_trees.specs.Scripts.{Script, IsChecked}
 
--- Inner and cross joins aren't built yet, and all other operators are.
+-- An operator is built where there is a rule for it.
 abbrev pub is_built : DataSetOperator → Bool
-is_built (Join Inner) = false
-is_built (Join Cross) = false
-is_built _ = true
+is_built (Clause clause) = true
+is_built (Pair items) = true
+is_built (Choice holds fails items) = true
+is_built (ExistsIn rows) = true
+is_built (Set operation) = true
+is_built (Join f) = true
+is_built (InJoin clause) = true
+is_built (Aggregate a) = false
+is_built (Window w) = false
+is_built (WindowInJoin w) = false
+is_built (Time t) = false
+is_built (Check c) = false
+is_built (Datapoint d) = false
+is_built (Hierarchy h) = false
 
 abbrev mutual
   -- all operators of an expression are built

@@ -5,7 +5,6 @@ ghost use Rattle.vtl_values.specs.Structures.{IsStructure};
 ghost use Rattle.built_scripts.specs.Built as built;
 
 use data_set_trees::DataSetOperator;
-use vtl_syntax::words::JoinFunction;
 use vtl_values::Structure;
 
 /// Whether an operator is built.
@@ -13,8 +12,20 @@ pub(crate) fn is_built(operator: &DataSetOperator) -> bool
     ensures { result ≡ built.is_built operator.now }
 {
     match operator {
-        DataSetOperator::Join(JoinFunction::Inner | JoinFunction::Cross) => false,
-        _ => true,
+        DataSetOperator::Clause(_)
+        | DataSetOperator::Pair { .. }
+        | DataSetOperator::Choice { .. }
+        | DataSetOperator::ExistsIn { .. }
+        | DataSetOperator::Set(_)
+        | DataSetOperator::Join(_)
+        | DataSetOperator::InJoin(_) => true,
+        DataSetOperator::Aggregate(_)
+        | DataSetOperator::Window(_)
+        | DataSetOperator::WindowInJoin(_)
+        | DataSetOperator::Time(_)
+        | DataSetOperator::Check(_)
+        | DataSetOperator::Datapoint(_)
+        | DataSetOperator::Hierarchy(_) => false,
     }
 }
 

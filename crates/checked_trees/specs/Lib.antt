@@ -1,4 +1,5 @@
 pub mod Choices
+pub mod Uses
 pub mod Operators
 pub mod Expressions
 pub mod Typing

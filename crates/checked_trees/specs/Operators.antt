@@ -1,5 +1,6 @@
 -- Operators, and where they are well typed (docs/language.md, "Clauses", "Structures of results").
-use Rattle.std.specs.Prelude.{◌≡◌, ◌++◌, Bool, true, List, [], ◌∷◌, map, Option, refl}
+use Rattle.std.specs.Prelude.{◌≡◌, ◌++◌, ◌&&◌, Bool, true, List, [], ◌∷◌, map, Option, is_some, refl}
+use Rattle.std.specs.Option.{option_to_list}
 use Rattle.std.specs.Coded.{Coded, code_by, coded×, coded_list}
 use Rattle.std.specs.List.{All, list_all}
 use Rattle.vtl_values.specs.declared.structure.Component.{Component}
@@ -13,17 +14,28 @@ use Rattle.clause_trees.specs.declared.clause.CheckedMeasure.{CheckedMeasure}
 use Rattle.clause_trees.specs.Frames.{frame_of}
 use Rattle.clause_trees.specs.After.{after}
 use Rattle.clause_trees.specs.WellTyped.{is_well_typed}
+use Rattle.aggregate_trees.specs.Results.{grouped}
+use Rattle.aggregate_trees.specs.WellTyped as aggregates
+use Rattle.window_trees.specs.declared.analytic.CheckedWindow.{CheckedWindow}
+use Rattle.window_trees.specs.Results as windows
+use Rattle.window_trees.specs.WellTyped as windows_typed
+use Rattle.time_trees.specs.Times as times
+use Rattle.rule_trees.specs.declared.rules.CheckedCheck.{CheckedCheck}
+use Rattle.rule_trees.specs.Datapoints as datapoints
+use Rattle.rule_trees.specs.Hierarchies as hierarchies
 use Rattle.data_set_trees.specs.contracts.tree.DataSetOperator as operator
 use Rattle.data_set_trees.specs.declared.tree.Branch.{Branch}
 use Rattle.data_set_trees.specs.declared.tree.ChoiceMeasure.{ChoiceMeasure}
 use Rattle.data_set_trees.specs.declared.tree.DataSetOperator.{DataSetOperator}
-use Rattle.data_set_trees.specs.declared.tree.DataSetOperator.TheVariants.{Clause, Pair, Choice, ExistsIn, Set, Join, InJoin}
+use Rattle.data_set_trees.specs.declared.tree.DataSetOperator.TheVariants.{Clause, Pair, Choice, ExistsIn, Set, Join, InJoin, Aggregate, Window, WindowInJoin, Time, Check, Datapoint, Hierarchy}
 use Rattle.data_set_trees.specs.Components.{unlisted, virals_agree, are_alike}
+use Rattle.data_set_trees.specs.Checks.{told_fits, tells, is_numeric, is_imbalance_of, if_imbalance, check_structure}
 use Rattle.vtl_syntax.specs.declared.words.JoinFunction.{JoinFunction}
 use Rattle.data_set_trees.specs.Exists.{common_agree, exists_structure}
 use Rattle.data_set_trees.specs.Joins.{may_join, join_components}
 use Rattle.data_set_trees.specs.Pairs.{identifiers_agree, joined}
 use Rattle.checked_trees.specs.Choices.{is_branch, branches, IsChoiceOf}
+use Rattle.checked_trees.specs.Uses.{is_series, is_datapoint, is_hierarchy}
 
 -- an operator with the structures of its operands and of its result
 pub record Operator : Type 0 where
@@ -115,6 +127,38 @@ pub record IsTypedInJoin (clause : CheckedClause) (operands : List (List Compone
   pub typed : is_well_typed (frame_of operand) clause ≡ true
   pub after_it : AreSameButNames structure (map unlisted (after clause (frame_of operand)).components)
 
+-- an operator on one data set, on whose components it is well typed, and what it makes of them
+pub record IsTypedOnOne (typed : List Component → Bool) (after : List Component → List Component) (operands : List (List Component)) (structure : List Component) : Type 0 where
+  pub operand : List Component
+  pub one : operands ≡ operand ∷ []
+  pub well : typed operand ≡ true
+  pub after_it : structure ≡ map unlisted (after operand)
+
+-- what analytic operators make of components, and where they are well typed
+abbrev pub window_after : CheckedWindow → List Component → List Component
+window_after w components = (windows.after w (frame_of components)).components
+
+abbrev pub is_window : CheckedWindow → List Component → Bool
+is_window w components = windows_typed.is_well_typed (frame_of components) w
+
+-- analytic operators in a join are as those on a data set, but for the names of what they leave
+pub record IsTypedWindowInJoin (w : CheckedWindow) (operands : List (List Component)) (structure : List Component) : Type 0 where
+  pub operand : List Component
+  pub one : operands ≡ operand ∷ []
+  pub well : is_window w operand ≡ true
+  pub after_it : AreSameButNames structure (map unlisted (window_after w operand))
+
+-- `check` takes a data set of the one measure `bool_var`, a boolean, and the imbalance, if there is one
+pub record IsTypedCheck (c : CheckedCheck) (operands : List (List Component)) (structure : List Component) : Type 0 where
+  pub checked : List Component
+  pub imbalance : Option (List Component)
+  pub has : is_some imbalance ≡ c.has_imbalance
+  pub operands_are : operands ≡ checked ∷ option_to_list imbalance
+  pub truth : told_fits checked && tells checked ≡ true
+  pub numeric : if_imbalance is_numeric imbalance ≡ true
+  pub belongs : if_imbalance (is_imbalance_of checked) imbalance ≡ true
+  pub gives : structure ≡ check_structure checked imbalance
+
 -- the operator takes these structures and gives that one
 abbrev pub TakesOperands : Operator → Type 0
 TakesOperands o = by_operator o.operator
@@ -127,6 +171,13 @@ TakesOperands o = by_operator o.operator
     by_operator (Set operation) = IsTypedSet o.operands o.structure
     by_operator (Join f) = IsTypedJoin f o.operands o.structure
     by_operator (InJoin clause) = IsTypedInJoin clause o.operands o.structure
+    by_operator (Aggregate a) = IsTypedOnOne (λ s. aggregates.is_well_typed s a) (grouped a) o.operands o.structure
+    by_operator (Window w) = IsTypedOnOne (is_window w) (window_after w) o.operands o.structure
+    by_operator (WindowInJoin w) = IsTypedWindowInJoin w o.operands o.structure
+    by_operator (Time t) = IsTypedOnOne (λ s. is_series s t) (times.after t) o.operands o.structure
+    by_operator (Check c) = IsTypedCheck c o.operands o.structure
+    by_operator (Datapoint d) = IsTypedOnOne (λ s. is_datapoint s d) (datapoints.after d) o.operands o.structure
+    by_operator (Hierarchy h) = IsTypedOnOne (λ s. is_hierarchy s h) (hierarchies.after h) o.operands o.structure
 
 -- its operands and its result are data sets of structures, which it takes and gives
 pub record IsTyped (o : Operator) : Type 0 where

@@ -1,25 +1,38 @@
--- Which operators are conditionals.
-use Rattle.std.proofs.Common.{◌≡◌, List, Option, Some, None, true, ◌||◌, refl}
-use Rattle.std.specs.Prelude.{is_some, is_none}
+-- The conditional that an operator is.
+use Rattle.std.proofs.Common.{◌≡◌, ◌≤◌, List, ◌∷◌, length, Option, Some, None, true, ◌||◌, refl, sym, subst, arith}
+use Rattle.std.specs.Prelude.{is_some}
 use Rattle.vtl_values.specs.declared.structure.Component.{Component}
 use Rattle.data_set_trees.specs.declared.tree.DataSetOperator.{DataSetOperator}
-use Rattle.data_set_trees.specs.declared.tree.DataSetOperator.TheVariants.{Clause, Pair, Choice, ExistsIn, Set, Join, InJoin}
-use Rattle.checked_trees.specs.Operators.{IsTypedChoice}
-use Rattle.choice_ops.specs.Plans.{fails_in, holds_in, measures_in}
+use Rattle.checked_trees.specs.Choices.{branches}
+use Rattle.checked_trees.specs.Operators as checked
+use Rattle.checked_trees.specs.Operators.{an_operator, Operator, IsTyped, TakesOperands}
+use Rattle.operator_meaning.specs.Operators.{meaning_of}
+use Rattle.choice_meaning.specs.Choices.{choice_meaning}
+use Rattle.choice_meaning.specs.Typed.{IsTypedChoice}
+use Rattle.choice_ops.specs.Plans.{choice_in, fails_in, holds_in, measures_in}
+use Rattle.choice_ops.specs.Rules.{IsChoice}
 
--- a branch at least is a data set
-no-branch : (holds fails : Option (List Component)) → is_none holds ≡ true → is_none fails ≡ true → (is_some holds || is_some fails) ≡ true → ⊥
-no-branch None None h f some = cc
-no-branch (Some s) fails h f some = cc
-no-branch None (Some s) h f some = cc
+-- it is well typed where the operator is
+pub typed-choice : (o : Operator) → IsTyped o → IsChoice o.operator → IsTypedChoice (choice_in o)
+typed-choice o typed choice =
+    let takes : checked.IsTypedChoice choice.holds choice.fails choice.measures o.operands o.structure = subst (λ (operator : DataSetOperator). TakesOperands (an_operator operator o.operands o.structure)) choice.is typed.takes in
+    record {
+      structures = typed.structures;
+      structure_is = typed.result;
+      choice = subst (λ (operator : DataSetOperator). checked.IsTypedChoice (holds_in operator) (fails_in operator) (measures_in operator) o.operands o.structure) (sym choice.is) takes;
+    }
 
--- an operator that is well typed as a conditional is one
-pub is-choice : (o : DataSetOperator) (operands : List (List Component)) (structure : List Component) → IsTypedChoice (holds_in o) (fails_in o) (measures_in o) operands structure
-    → o ≡ Choice (holds_in o) (fails_in o) (measures_in o)
-is-choice (Choice holds fails items) operands structure typed = refl
-is-choice (Clause clause) operands structure typed = absurd (no-branch typed.when_holds typed.when_fails typed.holds_is typed.fails_is typed.choice.some)
-is-choice (Pair items) operands structure typed = absurd (no-branch typed.when_holds typed.when_fails typed.holds_is typed.fails_is typed.choice.some)
-is-choice (ExistsIn rows) operands structure typed = absurd (no-branch typed.when_holds typed.when_fails typed.holds_is typed.fails_is typed.choice.some)
-is-choice (Set operation) operands structure typed = absurd (no-branch typed.when_holds typed.when_fails typed.holds_is typed.fails_is typed.choice.some)
-is-choice (Join f) operands structure typed = absurd (no-branch typed.when_holds typed.when_fails typed.holds_is typed.fails_is typed.choice.some)
-is-choice (InJoin clause) operands structure typed = absurd (no-branch typed.when_holds typed.when_fails typed.holds_is typed.fails_is typed.choice.some)
+-- and gives what the operator gives
+pub choice-means : (o : Operator) → IsChoice o.operator → choice_meaning (choice_in o) ≡ meaning_of o
+choice-means o choice = subst (λ (operator : DataSetOperator). choice_meaning (choice_in (an_operator operator o.operands o.structure)) ≡ meaning_of (an_operator operator o.operands o.structure)) (sym choice.is) refl
+
+-- there are at least two operands
+pub some-branches : (o : Operator) → IsTyped o → IsChoice o.operator → 2 ≤ length o.operands
+some-branches o typed choice =
+    let own = (typed-choice o typed choice).choice in
+    subst (λ (ss : List (List Component)). 2 ≤ length ss) (sym own.operands_are) (by_branches own.condition own.when_holds own.when_fails own.choice.some)
+  where
+    by_branches : (c : List Component) (s t : Option (List Component)) → (is_some s || is_some t) ≡ true → 2 ≤ length (c ∷ branches s t)
+    by_branches c None None h = cc
+    by_branches c None (Some t) h = omega arith
+    by_branches c (Some s) t h = omega arith

@@ -1,5 +1,5 @@
 pub mod Places
 pub mod Steps
-pub mod Marked
 pub mod Chosen
+pub mod Marked
 pub mod Shared

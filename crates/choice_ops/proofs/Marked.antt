@@ -33,11 +33,11 @@ use Rattle.clause_meaning.proofs.ByRole.{of-identifiers}
 use Rattle.clause_meaning.proofs.Covered.{point_by_point-covered}
 use Rattle.clause_trees.specs.Frames.{has_role}
 use Rattle.vtl_values.specs.declared.kind.Role.TheVariants.{Identifier}
-use Rattle.checked_trees.specs.Choices.{branches}
 use Rattle.std.proofs.lemmas.Slice.Zip.{AllZip-long}
 use Rattle.std.proofs.Math.Nat.{mul-le-mul_right}
 use Rattle.data_set_trees.specs.Components.{identifiers}
-use Rattle.checked_trees.specs.Operators.{Operator}
+use Rattle.checked_trees.specs.Operators.{Operator, IsTyped}
+use Rattle.operator_meaning.specs.Operators.{meaning_of, AreOperands}
 use Rattle.held_index.specs.Drafts.{SetDraft}
 use Rattle.held_index.specs.Holdings.{AllPlain, Holding, contents}
 use Rattle.held_index.specs.Reach.{changes_in}
@@ -53,7 +53,8 @@ use Rattle.choice_meaning.specs.Typed.{IsTypedChoice}
 use Rattle.choice_meaning.proofs.Keys.{key-back, condition-structure}
 use Rattle.choice_ops.specs.Noted.{change_at, Sees, noted_at, keys_from, IsNoted}
 use Rattle.choice_ops.specs.Plans.{choice_in}
-use Rattle.choice_ops.specs.Rules.{wanted_of}
+use Rattle.choice_ops.specs.Rules.{wanted_of, IsChoice}
+use Rattle.choice_ops.proofs.Chosen.{choice-means, some-branches, typed-choice}
 use Rattle.choice_ops.proofs.Places.{chosen-within}
 
 -- ---- what is noted
@@ -237,33 +238,27 @@ module _ (c : ChoiceOn) (typed : IsTypedChoice c) (some : 0 < length c.operands)
 
 -- ---- what is held
 
-module _ (o : Operator) (typed : IsTypedChoice (choice_in o)) (held : List Holding) (news : List Changes) (long : length news ≡ length o.operands) (n : SetDraft) where
+module _ (o : Operator) (typed : IsTyped o) (choice : IsChoice o.operator) (held : List Holding) (news : List Changes) (long : length news ≡ length o.operands) (n : SetDraft) where
   abbrev on : ChoiceOn
   on = choice_in o
 
   abbrev AllNoted : Type 0
   AllNoted = (sets : List DataSet) → AllPlain held → Sees held news sets → IsNoted on (contents held) sets (keys_from on 0 news) n
 
-  asked-right : AllNoted → 0 < length o.operands → (before : ℕ) (xs : List DataSet) (x : DataSet) → AreAsked (AllZip IsBoundedSetOf o.operands) (choice_meaning on) (wanted_of o) held news before xs x → IsRight (choice_meaning on (after_news news xs)) x (finished before n)
-  asked-right noted some before xs x asked =
+  asked-right : AllNoted → (before : ℕ) (xs : List DataSet) (x : DataSet) → AreAsked (AreOperands o.operands) (choice_meaning on) (wanted_of o) held news before xs x → IsRight (choice_meaning on (after_news news xs)) x (finished before n)
+  asked-right noted before xs x asked =
+      let some = some-branches o typed choice in
       let as_many : length xs ≡ length o.operands = AllZip-long IsBoundedSetOf o.operands xs asked.admitted in
       let are : contents held ≡ xs = ap contents (sym asked.held_is) ∙ contents-all_whole xs (length o.operands) as_many in
       let plain : AllPlain held = subst AllPlain asked.held_is (all_whole-plain xs (length o.operands)) in
       let sees : Sees held news (after_news news xs) = subst (λ (us : List DataSet). (i : ℕ) (key : List Value) → get (set_at (after_news news xs) i) key ≡ after (change_at news i key) (get (set_at us i) key)) (sym are) (set-after news xs (long ∙ sym as_many)) in
       let all : IsNoted on xs (after_news news xs) (keys_from on 0 news) n = subst (λ (us : List DataSet). IsNoted on us (after_news news xs) (keys_from on 0 news) n) are (noted (after_news news xs) plain sees) in
-      right-noted on typed some news xs asked.admitted asked.admitted_after (long ∙ sym as_many) x before n all asked.result_is asked.count
+      right-noted on (typed-choice o typed choice) (omega (arith, some)) news xs asked.admitted asked.admitted_after (long ∙ sym as_many) x before n all asked.result_is asked.count
 
-  pub right-answer : AllNoted → 0 < length o.operands → (before : ℕ) (answer : Result Changes Stop) → IfSome (answer_of answer) (λ a. a ≡ finished before n) → IsRightAnswer (AllZip IsBoundedSetOf o.operands) (choice_meaning on) (wanted_of o) held news before answer
-  right-answer noted some before answer ends = IsRightAnswer-finished (AllZip IsBoundedSetOf o.operands) (choice_meaning on) (wanted_of o) held news before answer n ends (asked-right noted some before)
-
--- there are at least two operands
-pub some-branches : (o : Operator) → IsTypedChoice (choice_in o) → 2 ≤ length o.operands
-some-branches o typed = subst (λ (os : List (List Component)). 2 ≤ length os) (sym typed.choice.operands_are) (by_branches typed.choice.when_holds typed.choice.when_fails typed.choice.choice.some)
-  where
-    by_branches : (s t : Option (List Component)) → (is_some s || is_some t) ≡ true → 2 ≤ length (typed.choice.condition ∷ branches s t)
-    by_branches None None h = cc
-    by_branches None (Some t) h = omega arith
-    by_branches (Some s) t h = omega arith
+  pub right-answer : AllNoted → (before : ℕ) (answer : Result Changes Stop) → IfSome (answer_of answer) (λ a. a ≡ finished before n) → IsRightAnswer (AreOperands o.operands) (meaning_of o) (wanted_of o) held news before answer
+  right-answer noted before answer ends =
+      subst (λ (meaning : List DataSet → SetOutcome). IsRightAnswer (AreOperands o.operands) meaning (wanted_of o) held news before answer) (choice-means o choice)
+      (IsRightAnswer-finished (AreOperands o.operands) (choice_meaning on) (wanted_of o) held news before answer n ends (asked-right noted before))
 
 -- three looks for each change are within reach
 pub within-reach : (n c : ℕ) → 2 ≤ n → 6 * c ≤ (2 * n + 2) * c

@@ -1,6 +1,6 @@
 //! The delta rule of conditionals `if c then a else b` on data sets.
 //!
-//! It stands on the meaning of conditionals in `choice_meaning`, on `scalar_eval` for the measures, and on the held
+//! It stands on the meanings of operators in `operator_meaning`, on `scalar_eval` for the measures, and on the held
 //! operands, the drafts and the trait of rules of `held_index`. A `ChoicePlan` is made once from the structures of the
 //! operands and of the result: it keeps the numbers by which keys are turned into each other and viral attributes meet. At
 //! the key of each change the rule works out what the result had and has: the condition is looked up there, and the branch

@@ -8,8 +8,6 @@ ghost use Rattle.scalar_meaning.specs.Logic as logic;
 ghost use Rattle.scalar_meaning.specs.Rows.{point_row};
 ghost use Rattle.clause_eval.specs.Evaluations.{IsEvaluation};
 ghost use Rattle.clause_meaning.specs.Clauses.{values_on};
-ghost use Rattle.data_set_trees.specs.declared.tree.ChoiceMeasure.{ChoiceMeasure as Measured};
-ghost use Rattle.data_set_trees.specs.declared.tree.DataSetOperator.TheVariants.{Choice};
 ghost use Rattle.checked_trees.specs.Operators.{an_operator};
 ghost use Rattle.choice_meaning.specs.Choices as meant;
 ghost use Rattle.choice_meaning.specs.Typed.{IsTypedChoice};
@@ -184,14 +182,6 @@ impl ChoicePlan {
             test: measure_number(first),
             virals,
         })
-    }
-
-    /// The branches of the operator, which is a conditional.
-    pub(crate) fn branches(&self) -> (Branch, Branch)
-        ensures { (measures : List Measured) × (self.now.operator ≡ Choice result.0 result.1 measures) }
-    {
-        let operator = self.operator.get();
-        (holds_of(operator), fails_of(operator))
     }
 
     /// The structure of the result.

@@ -1,15 +1,12 @@
 // The rule of a conditional on data sets.
-ghost use Rattle.std.specs.Prelude.{◌≡◌, List, IfOk};
-ghost use Rattle.data_set_trees.specs.declared.tree.ChoiceMeasure.{ChoiceMeasure as Measured};
-ghost use Rattle.data_set_trees.specs.declared.tree.DataSetOperator.TheVariants.{Choice};
-ghost use Rattle.checked_trees.specs.Operators.{an_operator};
-ghost use Rattle.choice_meaning.specs.Typed.{IsTypedChoice};
-ghost use Rattle.choice_ops.specs.Plans.{choice_in};
+ghost use Rattle.std.specs.Prelude.{◌≡◌, IfOk};
+ghost use Rattle.checked_trees.specs.Operators.{an_operator, IsTyped};
+ghost use Rattle.choice_ops.specs.Rules.{IsChoice};
 
 use crate::notes::noted;
 use crate::plan::ChoicePlan;
 use data_model::steps::Steps;
-use data_set_trees::{Branch, DataSetNode};
+use data_set_trees::DataSetNode;
 use held_index::{DeltaRule, Held, Stop, Want, all_whole};
 use point_sets::Delta;
 use scalar_eval::Matchers;
@@ -44,7 +41,8 @@ impl Model for ChoiceRule {
 impl ChoiceRule {
     /// The rule of a node's operator, which is a conditional.
     pub fn of(alloc: Global, node: &DataSetNode) -> Result<ChoiceRule, AllocError>
-        requires typed { IsTypedChoice (choice_in (an_operator node.now.operator node.now.operands node.now.structure)) }
+        requires typed { IsTyped (an_operator node.now.operator node.now.operands node.now.structure) }
+        requires choice { IsChoice node.now.operator }
         ensures { IfOk result (λ rule. rule ≡ an_operator node.now.operator node.now.operands node.now.structure) }
     {
         Ok(ChoiceRule {
@@ -53,29 +51,28 @@ impl ChoiceRule {
         })
     }
 
-    /// The branches of the operator, which is a conditional.
-    pub fn branches(&self) -> (Branch, Branch)
-        ensures { (measures : List Measured) × (self.now.operator ≡ Choice result.0 result.1 measures) }
+    /// The plan of the operator, which is a conditional, and well typed.
+    fn plan(&self) -> &ChoicePlan
+        ensures planned { result.now ≡ self.now }
+        ensures typed { IsTyped self.now }
+        ensures choice { IsChoice self.now.operator }
     {
-        self.plan.branches()
+        &self.plan
     }
 }
 
 impl DeltaRule for ChoiceRule {
     ghost use Rattle.std.specs.Prelude.{length};
-    ghost use Rattle.std.specs.List.{AllZip};
-    ghost use Rattle.structured_sets.specs.Fitting.{IsBoundedSetOf};
-    ghost use Rattle.choice_meaning.specs.Choices.{choice_meaning};
-    ghost use Rattle.choice_ops.specs.Plans.{choice_in};
+    ghost use Rattle.operator_meaning.specs.Operators.{meaning_of, AreOperands};
     ghost use Rattle.choice_ops.specs.Reach.{choice_reach};
     ghost use Rattle.choice_ops.specs.ReachLaws.{no_reach};
     ghost use Rattle.choice_ops.specs.Rules.{wanted_of};
 
     ghost arity = { λ r. length r.operands };
 
-    ghost admits = { λ r. AllZip IsBoundedSetOf r.operands };
+    ghost admits = { λ r. AreOperands r.operands };
 
-    ghost meaning = { λ r. choice_meaning (choice_in r) };
+    ghost meaning = { meaning_of };
 
     ghost wanted = { wanted_of };
 
@@ -103,6 +100,6 @@ impl DeltaRule for ChoiceRule {
         steps: &mut Steps<L>,
     ) -> Result<Delta, Stop> {
         let mut matchers = Matchers::new(alloc);
-        noted(alloc, &self.plan, held, news, &mut matchers, steps)?.finish(alloc, before)
+        noted(alloc, self.plan(), held, news, &mut matchers, steps)?.finish(alloc, before)
     }
 }

@@ -3,7 +3,7 @@ use Rattle.std.proofs.Common.{◌≡◌, List, [], ◌∷◌, Some, ap}
 use Rattle.vtl_values.specs.declared.structure.Component.{Component}
 use Rattle.clause_trees.specs.declared.clause.CheckedClause.{CheckedClause}
 use Rattle.data_set_trees.specs.declared.tree.DataSetOperator.{DataSetOperator}
-use Rattle.data_set_trees.specs.declared.tree.DataSetOperator.TheVariants.{Clause, Pair, Choice, ExistsIn, Set, Join, InJoin}
+use Rattle.data_set_trees.specs.declared.tree.DataSetOperator.TheVariants.{Clause, Pair, Choice, ExistsIn, Set, Join, InJoin, Aggregate, Window, WindowInJoin, Time, Check, Datapoint, Hierarchy}
 use Rattle.operator_meaning.specs.Operators.{clause_on, meaning_of}
 use Rattle.clause_ops.specs.Rules.{clause_in, on_one}
 
@@ -16,3 +16,10 @@ meaning-one (Choice holds fails items) clause operand structure e = cc
 meaning-one (ExistsIn rows) clause operand structure e = cc
 meaning-one (Set operation) clause operand structure e = cc
 meaning-one (Join f) clause operand structure e = cc
+meaning-one (Aggregate a) clause operand structure e = cc
+meaning-one (Window w) clause operand structure e = cc
+meaning-one (WindowInJoin w) clause operand structure e = cc
+meaning-one (Time t) clause operand structure e = cc
+meaning-one (Check c) clause operand structure e = cc
+meaning-one (Datapoint d) clause operand structure e = cc
+meaning-one (Hierarchy h) clause operand structure e = cc

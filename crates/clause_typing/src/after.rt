@@ -16,8 +16,8 @@ use std::alloc::{AllocError, Global};
 use typing_rules::ScopeName;
 use vtl_values::{Codes, Component, Kind, Role, Word};
 
-/// A component without a code list.
-fn made(role: Role, kind: Kind, name: &Word) -> Result<Component, AllocError>
+/// A component without a code list, or want of memory.
+pub fn made(role: Role, kind: Kind, name: &Word) -> Result<Component, AllocError>
     ensures { IfOk result (λ component. component ≡ meant.made role kind name.now) }
 {
     Ok(Component {
@@ -199,7 +199,9 @@ fn measured(alloc: Global, items: &[CheckedMeasure], frame: &Frame) -> Result<Fr
     Ok(after)
 }
 
-fn by_role(alloc: Global, frame: &Frame) -> Result<Frame, AllocError>
+/// The components by role: identifiers, measures, attributes and then viral attributes, each in their order. Or want of
+/// memory. It costs the number of names and components.
+pub fn by_role(alloc: Global, frame: &Frame) -> Result<Frame, AllocError>
     ensures { IfOk result (λ ordered. ordered ≡ meant_frames.by_role frame.now) }
 {
     let numbers = numbers_by_role(alloc, frame.components.as_slice())?;

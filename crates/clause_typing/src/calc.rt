@@ -8,7 +8,7 @@ ghost use Rattle.clause_trees.specs.WellTyped.{is_of, is_well_typed, kinds_on};
 
 use crate::after::calculate;
 use crate::choices::may_go;
-use crate::demands::{demands, has_room};
+use crate::demanded::{demands, has_room};
 use crate::differ::targets_differ;
 use crate::names::bare_number_of;
 use crate::parts::copy_frame;
@@ -19,7 +19,8 @@ use typing_rules::{Fault, TypeStop, Typed};
 use vtl_syntax::words::ItemRole;
 use vtl_values::{Kind, Place, Role, Word};
 
-fn target_of(number: Option<u64>, name: &Word) -> Result<Target, AllocError>
+/// What an item is put into: the component with this number, or else a new one of this name. Or want of memory.
+pub fn target_of(number: Option<u64>, name: &Word) -> Result<Target, AllocError>
     ensures { IfOk result (λ target. target ≡ meant.target_of number name.now) }
 {
     match number {
@@ -28,7 +29,8 @@ fn target_of(number: Option<u64>, name: &Word) -> Result<Target, AllocError>
     }
 }
 
-fn old_role(frame: &Frame, number: Option<u64>) -> Option<Role>
+/// The role of the component with this number, if there is one.
+pub fn old_role(frame: &Frame, number: Option<u64>) -> Option<Role>
     ensures { result ≡ meant.old_role frame.now number }
 {
     let number = number?;
@@ -38,7 +40,8 @@ fn old_role(frame: &Frame, number: Option<u64>) -> Option<Role>
     }
 }
 
-fn role_of(stated: Option<ItemRole>, old: Option<Role>) -> Role
+/// The role of what an item is put into: the one that is stated, or else the one that the component had, or else measure.
+pub fn role_of(stated: Option<ItemRole>, old: Option<Role>) -> Role
     ensures { result ≡ meant.role_of stated old }
 {
     match stated {

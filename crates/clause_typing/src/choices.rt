@@ -7,7 +7,7 @@ ghost use Rattle.clause_trees.specs.After as after;
 ghost use Rattle.clause_trees.specs.Clauses as meant;
 ghost use Rattle.clause_trees.specs.WellTyped.{is_well_typed};
 
-use crate::demands::demands;
+use crate::demanded::demands;
 use crate::names::{are_known, numbers_named};
 use crate::numbers::{always_stays, has_role};
 use clause_trees::{CheckedClause, Frame};

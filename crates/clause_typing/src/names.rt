@@ -24,7 +24,7 @@ fn within(components: &[Component], number: u64) -> Option<u64>
 }
 
 /// The number of the component that a bare name stands for, if it does.
-pub(crate) fn bare_number_of(frame: &Frame, name: &Word) -> Option<u64>
+pub fn bare_number_of(frame: &Frame, name: &Word) -> Option<u64>
     ensures { result ≡ meant.bare_number_of frame.now name.now }
 {
     let number = bare_number(frame.names.as_slice(), name)?;

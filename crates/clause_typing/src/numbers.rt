@@ -15,14 +15,15 @@ fn is_role(role: Role, other: Role) -> bool
     role == other
 }
 
-pub(crate) fn has_role(role: Role, component: &Component) -> bool
+/// Whether a component has this role.
+pub fn has_role(role: Role, component: &Component) -> bool
     ensures { result ≡ meant.has_role role component.now }
 {
     is_role(role, component.role)
 }
 
 /// Whether a number is in the list.
-pub(crate) fn is_among(numbers: &[u64], number: u64) -> bool
+pub fn is_among(numbers: &[u64], number: u64) -> bool
     ensures { result ≡ meant_after.is_among numbers.now number }
 {
     numbers.iter().any(|other| number == *other)

@@ -152,8 +152,9 @@ fn picked_components(
     Ok(picked)
 }
 
-/// The components with these numbers, in this order, under their names. Or want of memory.
-pub(crate) fn picked(alloc: Global, numbers: &[u64], frame: &Frame) -> Result<Frame, AllocError>
+/// The components with these numbers, in this order, under their names. Or want of memory. It costs the number of names
+/// and of numbers.
+pub fn picked(alloc: Global, numbers: &[u64], frame: &Frame) -> Result<Frame, AllocError>
     ensures { IfOk result (λ picked. picked ≡ meant.picked numbers.now frame.now) }
 {
     Ok(Frame {

@@ -5,7 +5,7 @@ ghost use Rattle.clause_trees.specs.Clauses as meant;
 ghost use Rattle.clause_trees.specs.WellTyped.{is_well_typed};
 
 use crate::after::rename_all;
-use crate::demands::demands;
+use crate::demanded::demands;
 use crate::differ::{names_differ, renamed_once};
 use crate::names::number_of;
 use crate::parts::copy_frame;

@@ -6,7 +6,7 @@ ghost use Rattle.clause_trees.specs.Frames as frames;
 ghost use Rattle.clause_trees.specs.Clauses as meant;
 ghost use Rattle.clause_trees.specs.WellTyped.{is_well_typed};
 
-use crate::demands::demands;
+use crate::demanded::demands;
 use crate::names::bare_number_of;
 use crate::numbers::has_role;
 use clause_trees::{CheckedClause, CheckedSubItem, Frame};

@@ -6,7 +6,7 @@ ghost use Rattle.clause_trees.specs.Clauses as meant;
 ghost use Rattle.clause_trees.specs.WellTyped.{is_well_typed};
 
 use crate::after::{measure_kind, unpivoted};
-use crate::demands::{demands, has_room};
+use crate::demanded::{demands, has_room};
 use crate::differ::names_differ;
 use crate::numbers::has_role;
 use clause_trees::{CheckedClause, Frame};

@@ -1,4 +1,4 @@
-// Clauses on a data set.
+// Clauses and other operators on one data set.
 ghost use Rattle.std.specs.Prelude.{◌≡◌, ◌∷◌, [], IfOk};
 ghost use Rattle.vtl_values.specs.Structures.{IsStructure};
 ghost use Rattle.data_set_trees.specs.Trees as meant;
@@ -34,6 +34,20 @@ fn one_set(alloc: Global, set: DataSet) -> Result<Items<DataSet>, AllocError>
     let mut sets = Items::new(alloc);
     sets.push(set)?;
     Ok(sets)
+}
+
+/// An operator at its place on one data set, with the structure of its result. Or want of memory.
+pub fn on_one(
+    alloc: Global,
+    operator: DataSetOperator,
+    place: Place,
+    set: DataSet,
+    structure: Structure,
+) -> Result<DataSet, AllocError>
+    ensures { IfOk result (λ after. after ≡ meant.applied operator place (set ∷ []) structure) }
+{
+    let sets = one_set(alloc, set)?;
+    applied(alloc, operator, place, sets, structure)
 }
 
 /// The clause at its place on a data set, where what it leaves is a structure. Or want of memory.

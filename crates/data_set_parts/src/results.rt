@@ -36,12 +36,20 @@ pub fn listed_unlisted(
     Ok(list)
 }
 
+/// The structure of a result with these components, which lose their code lists, viral attributes aside. Or want of memory.
+pub fn plain(alloc: Global, components: &[Component]) -> Result<Structure, AllocError>
+    requires { IsStructure components.now }
+    ensures { IfOk result (λ plain. plain ≡ map parts.unlisted components.now) }
+{
+    let list = listed_unlisted(alloc, components)?;
+    Structure::of(alloc, list)
+}
+
 /// A structure without its code lists, viral attributes aside. Or want of memory.
 pub fn without_codes(alloc: Global, structure: &Structure) -> Result<Structure, AllocError>
     ensures { IfOk result (λ plain. plain ≡ map parts.unlisted structure.now) }
 {
-    let list = listed_unlisted(alloc, structure.components())?;
-    Structure::of(alloc, list)
+    plain(alloc, structure.components())
 }
 
 const MOST_COMPONENTS: usize = 64;

@@ -9,13 +9,12 @@ use Rattle.vtl_values.specs.declared.structure.Component.{Component}
 use Rattle.vtl_values.specs.declared.value.Value.TheVariants as value
 use Rattle.typing_rules.specs.declared.stop.Fault.{Fault}
 use Rattle.typing_rules.specs.Scalars.{literal_typed}
-use Rattle.clause_trees.specs.declared.clause.CheckedClause.TheVariants.{Rename}
 use Rattle.clause_trees.specs.After.{made}
 use Rattle.data_set_trees.specs.declared.operand.Operand.{Operand}
 use Rattle.data_set_trees.specs.declared.operand.Operand.TheVariants as operand
 use Rattle.data_set_trees.specs.declared.tree.DataSetTree.TheVariants as tree
 use Rattle.data_set_trees.specs.declared.tree.Source.TheVariants.{Input}
-use Rattle.data_set_trees.specs.Joins.{Aliased, Placed}
+use Rattle.data_set_trees.specs.Joins.{Aliased}
 use Rattle.data_set_trees.specs.Trees.{SetAnswer}
 
 abbrev pub here : Place
@@ -99,9 +98,12 @@ abc = operand.Scalar (literal_typed (value.Text (codes "abc")))
 abbrev pub named : List ℕ → List Component → Aliased
 named alias structure = record { alias = alias; structure = structure }
 
--- a clause that renames the first component of a join
-abbrev pub renamed_first : List ℕ → List Placed
-renamed_first name = record { clause = Rename (record { component = 0; name = name } ∷ []); place = here } ∷ []
+-- G says of each Id whether a test is passed, and H has an imbalance for each
+abbrev pub tested : List Component
+tested = id ∷ made Measure kind.Truth (codes "bool_var") ∷ []
+
+abbrev pub by_codes : List Component
+by_codes = id ∷ made Measure kind.Integer (codes "N") ∷ status ∷ []
 
 -- ---- what is told of an answer
 

@@ -1,9 +1,8 @@
--- Joins, and the clauses inside them (docs/language.md, "Joins", "Structures of results").
-use Rattle.std.specs.Prelude.{ℕ, Bool, true, ◌&&◌, ◌+◌, ◌++◌, List, [], ◌∷◌, map, filter, flat_map, Option, Some, None, option_map, Result, Ok}
+-- Joins without the clauses inside them (docs/language.md, "Joins", "Structures of results").
+use Rattle.std.specs.Prelude.{ℕ, Bool, true, ◌&&◌, ◌+◌, ◌++◌, List, [], ◌∷◌, map, filter, flat_map, Option, Some, None, option_map}
 use Rattle.std.specs.List.{list_any, list_all}
 use Rattle.vtl_values.specs.Texts.{same_text}
 use Rattle.vtl_values.specs.declared.kind.Role.TheVariants.{Measure}
-use Rattle.vtl_values.specs.declared.place.Place.{Place}
 use Rattle.vtl_values.specs.declared.structure.Component.{Component}
 use Rattle.vtl_syntax.specs.declared.words.JoinFunction.{JoinFunction}
 use Rattle.vtl_syntax.specs.declared.words.JoinFunction.TheVariants as function
@@ -15,23 +14,11 @@ use Rattle.vtl_syntax.specs.declared.expr.Groups.{Groups}
 use Rattle.vtl_syntax.specs.declared.expr.Item.{Item}
 use Rattle.vtl_syntax.specs.declared.expr.SubstrRange.{SubstrRange}
 use Rattle.typing_rules.specs.declared.scope.ScopeName.{ScopeName}
-use Rattle.typing_rules.specs.declared.stop.Fault.TheVariants.{WrongStructure, NameTwice, TooManyComponents}
-use Rattle.typing_rules.specs.declared.stop.Refusal.{Refusal}
-use Rattle.typing_rules.specs.Scalars.{place_of}
-use Rattle.typing_rules.specs.Steps.{◌>>=◌, demanded, or_refused}
-use Rattle.clause_trees.specs.declared.clause.CheckedClause.{CheckedClause}
 use Rattle.clause_trees.specs.declared.frame.Frame.{Frame}
 use Rattle.clause_trees.specs.Frames.{has_role}
-use Rattle.clause_trees.specs.After.{after}
 use Rattle.clause_trees.specs.Clauses as clauses
 use Rattle.data_set_trees.specs.declared.operand.DataSet.{DataSet}
-use Rattle.data_set_trees.specs.declared.operand.Operand.{Operand}
-use Rattle.data_set_trees.specs.declared.operand.Operand.TheVariants as operand
-use Rattle.data_set_trees.specs.declared.tree.DataSetOperator.TheVariants as operator
-use Rattle.data_set_trees.specs.Components.{identifiers, virals, further, is_taken, names_differ, include, virals_agree, unlisted}
-use Rattle.data_set_trees.specs.Trees.{SetAnswer, applied}
-use Rattle.data_set_trees.specs.Sets.{all_data_sets}
-use Rattle.data_set_trees.specs.OnClauses.{clause_checked}
+use Rattle.data_set_trees.specs.Components.{identifiers, virals, further, is_taken, include, virals_agree}
 
 -- ---- what the operands have to have in common
 
@@ -120,6 +107,11 @@ names_under number _ _ = []
 abbrev pub join_frame : JoinFunction → List Aliased → Frame
 join_frame f operands = record { names = names_under 0 (join_components f (structures_of operands)) (join_titles f operands); components = join_components f (structures_of operands) }
 
+-- Inside a join names may stand twice, so its components are called by their numbers, as digits from `0` on.
+abbrev pub numbered : ℕ → List Component → List Component
+numbered number [] = []
+numbered number (c ∷ cs) = record c { name = (48 + number) ∷ [] } ∷ numbered (number + 1) cs
+
 -- ---- aliases
 
 abbrev pub own_name : Expr → Option (List ℕ)
@@ -145,57 +137,3 @@ all_aliased _ _ = None
 
 abbrev pub aliases_differ : List Aliased → Bool
 aliases_differ operands = clauses.all_differ same_text (map (λ (o : Aliased). o.alias) operands)
-
--- ---- the clauses inside
-
--- a clause at its place
-pub record Placed : Type 0 where
-  pub clause : CheckedClause
-  pub place : Place
-
--- the clauses, each on what the one before it leaves, or the first fault
-abbrev pub inside : List Clause → Frame → Result (List Placed) Refusal
-inside [] frame = Ok []
-inside (c ∷ cs) frame = clause_checked c frame >>= (λ checked. inside cs (after checked frame) >>= (λ others. Ok (record { clause = checked; place = place_of c } ∷ others)))
-
-abbrev pub after_all : List Placed → Frame → Frame
-after_all [] frame = frame
-after_all (c ∷ cs) frame = after_all cs (after c.clause frame)
-
--- Inside a join names may stand twice, so its components are called by their numbers, as digits from `0` on.
-abbrev pub numbered : ℕ → List Component → List Component
-numbered number [] = []
-numbered number (c ∷ cs) = record c { name = (48 + number) ∷ [] } ∷ numbered (number + 1) cs
-
--- what a data set in a join has where these clauses follow: at the end each component has its name
-abbrev pub structure_before : List Placed → Frame → List Component
-structure_before [] frame = map unlisted frame.components
-structure_before (c ∷ cs) frame = numbered 0 (map unlisted frame.components)
-
--- the clauses on a data set of a join, whose frame is this one
-abbrev pub with_clauses : List Placed → Frame → DataSet → DataSet
-with_clauses [] frame d = d
-with_clauses (c ∷ cs) frame d = with_clauses cs (after c.clause frame) (applied (operator.InJoin c.clause) c.place (d ∷ []) (structure_before cs (after c.clause frame)))
-
--- ---- a join
-
-abbrev pub joined : JoinFunction → Place → List DataSet → List Placed → Frame → DataSet
-joined f place ds checked frame = with_clauses checked frame (applied (operator.Join f) place ds (structure_before checked frame))
-
--- The join without its clauses has its faults first, then each clause at its own word; and at the end names differ.
-abbrev pub join_of : JoinFunction → Place → List Clause → List DataSet → List Aliased → SetAnswer
-join_of f place cs ds operands =
-    clauses.demands place
-    ((may_join f (structures_of operands), WrongStructure)
-    ∷ (aliases_differ operands && clauses.names_differ (join_frame f operands), NameTwice)
-    ∷ (clauses.has_room (join_frame f operands), TooManyComponents) ∷ [])
-    >>= (λ met. inside cs (join_frame f operands)
-    >>= (λ checked. demanded (names_differ (after_all checked (join_frame f operands)).components) NameTwice place
-    >>= (λ differ. Ok (operand.DataSet (joined f place ds checked (join_frame f operands))))))
-
--- each operand is a data set, and has an alias
-abbrev pub join_typed : JoinFunction → Place → List (Option (List ℕ)) → List Clause → List Operand → SetAnswer
-join_typed f place aliases cs operands =
-    or_refused (all_data_sets operands) WrongStructure place
-    >>= (λ ds. or_refused (all_aliased aliases ds) WrongStructure place
-    >>= (λ aliased. join_of f place cs ds aliased))

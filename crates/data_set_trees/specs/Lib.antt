@@ -8,7 +8,6 @@ pub mod Members
 pub mod Exists
 pub mod Sets
 pub mod Choices
-pub mod OnClauses
+pub mod Checks
 pub mod Joins
-pub mod Expressions
 pub mod Examples

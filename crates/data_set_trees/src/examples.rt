@@ -1,8 +1,7 @@
 // Each operator on small data sets.
-ghost use Rattle.std.specs.Prelude.{◌≡◌, [], ◌∷◌, true, codes, pos, Some, None};
+ghost use Rattle.std.specs.Prelude.{◌≡◌, [], ◌∷◌, true, false, codes, pos, Some, None};
 ghost use Rattle.vtl_values.specs.declared.kind.Kind.TheVariants.{Truth, Integer, Number, Text};
 ghost use Rattle.vtl_values.specs.declared.kind.Role.TheVariants.{Identifier, Measure};
-ghost use Rattle.vtl_syntax.specs.declared.words.JoinFunction.TheVariants as joining;
 ghost use Rattle.vtl_syntax.specs.declared.words.RoundFunction.TheVariants as rounding;
 ghost use Rattle.scalar_trees.specs.declared.operators.BinaryOperator.TheVariants as binary;
 ghost use Rattle.scalar_trees.specs.declared.operators.UnaryOperator.TheVariants as unary;
@@ -14,10 +13,9 @@ ghost use Rattle.data_set_trees.specs.Pairs.{lifted};
 ghost use Rattle.data_set_trees.specs.Members.{member_typed};
 ghost use Rattle.data_set_trees.specs.Exists.{exists_typed};
 ghost use Rattle.data_set_trees.specs.Sets.{sets_typed};
+ghost use Rattle.data_set_trees.specs.Checks.{check_structure, is_imbalance_of, tells};
 ghost use Rattle.data_set_trees.specs.Choices.{choice_typed};
-ghost use Rattle.data_set_trees.specs.Components.{names_differ};
-ghost use Rattle.data_set_trees.specs.Joins.{join_frame, join_typed, after_all};
-ghost use Rattle.data_set_trees.specs.Examples.{here, id, year, amount, note, status, amounts, by_year, texts, A, B, C, D, E, T, F, three, half, abc, named, renamed_first, is_set, has_fault};
+ghost use Rattle.data_set_trees.specs.Examples.{here, id, year, amount, status, amounts, by_year, by_codes, tested, A, B, C, D, E, T, F, three, half, abc, is_set, has_fault};
 
 /// `A + 3` has the structure of A, `A > 3` has `bool_var`, and `length(T)` has `int_var`. Of C a note goes and the status
 /// stays. A text has no sum. E's status has the name that a comparison would give, and 7 digits are too many.
@@ -71,18 +69,13 @@ pub fn choices()
     ensures scalars { has_fault (choice_typed here F three half) WrongStructure }
 {}
 
-/// `inner_join(A as a, T as t)` has A's amount and T's text, and of C and T the identifiers and the status of C, but not its
-/// note. An operand without an alias, or a scalar, is refused, and so are two equal aliases, a left join of different
-/// identifiers, and names that stand twice at the end, as the amounts of A and B do. The identifiers of a cross join do too,
-/// unless one is renamed.
-pub fn joins()
-    ensures inner { is_set (join_typed joining.Inner here (Some (codes "a") ∷ Some (codes "t") ∷ []) [] (A ∷ T ∷ [])) (id ∷ amount ∷ made Measure Text (codes "Name") ∷ []) }
-    ensures smaller { is_set (join_typed joining.Inner here (Some (codes "c") ∷ Some (codes "t") ∷ []) [] (C ∷ T ∷ [])) (id ∷ year ∷ amount ∷ made Measure Text (codes "Name") ∷ status ∷ []) }
-    ensures unnamed { has_fault (join_typed joining.Inner here (None ∷ Some (codes "t") ∷ []) [] (A ∷ T ∷ [])) WrongStructure }
-    ensures scalar { has_fault (join_typed joining.Inner here (Some (codes "a") ∷ Some (codes "b") ∷ []) [] (A ∷ three ∷ [])) WrongStructure }
-    ensures aliases { has_fault (join_typed joining.Inner here (Some (codes "a") ∷ Some (codes "a") ∷ []) [] (A ∷ T ∷ [])) NameTwice }
-    ensures left { has_fault (join_typed joining.Left here (Some (codes "a") ∷ Some (codes "c") ∷ []) [] (A ∷ C ∷ [])) WrongStructure }
-    ensures twice { has_fault (join_typed joining.Inner here (Some (codes "a") ∷ Some (codes "b") ∷ []) [] (A ∷ B ∷ [])) NameTwice }
-    ensures crossed { has_fault (join_typed joining.Cross here (Some (codes "a") ∷ Some (codes "t") ∷ []) [] (A ∷ T ∷ [])) NameTwice }
-    ensures renamed { names_differ (after_all (renamed_first (codes "Left")) (join_frame joining.Cross (named (codes "a") amounts ∷ named (codes "t") texts ∷ []))).components ≡ true }
+/// What is checked has the one measure `bool_var`. Without an imbalance the result has a number for it, and with one its
+/// kind and its viral attributes too.
+pub fn checks()
+    ensures tells { tells tested ≡ true }
+    ensures other { tells amounts ≡ false }
+    ensures fits { is_imbalance_of tested by_codes ≡ true }
+    ensures identifiers { is_imbalance_of tested by_year ≡ false }
+    ensures plain { check_structure tested None ≡ id ∷ made Measure Truth (codes "bool_var") ∷ made Measure Number (codes "imbalance") ∷ made Measure Text (codes "errorcode") ∷ made Measure Integer (codes "errorlevel") ∷ [] }
+    ensures imbalanced { check_structure tested (Some by_codes) ≡ id ∷ made Measure Truth (codes "bool_var") ∷ made Measure Integer (codes "imbalance") ∷ made Measure Text (codes "errorcode") ∷ made Measure Integer (codes "errorlevel") ∷ status ∷ [] }
 {}

@@ -1,10 +1,14 @@
 // Trees of operators on data sets.
 use crate::shared::SharedOperator;
+use aggregate_trees::CheckedAggregate;
 use clause_trees::{CheckedClause, CheckedMeasure};
+use rule_trees::{CheckedCheck, CheckedDatapoint, CheckedHierarchy};
 use scalar_trees::CheckedExpr;
 use sqlite_items::Items;
+use time_trees::CheckedTime;
 use vtl_syntax::words::{ExistsRows, JoinFunction};
 use vtl_values::{Kind, Place, Structure, Word};
+use window_trees::CheckedWindow;
 
 /// What a name stands for: an input by its number among the structures, or the result of a statement by its number in
 /// the script, both from 0.
@@ -66,6 +70,20 @@ pub enum DataSetOperator {
     Join(JoinFunction),
     /// A clause inside a join. There components are called by their numbers, and get their names at the end.
     InJoin(CheckedClause),
+    /// `sum(a group by ..)` and its like, and the clause `aggr`
+    Aggregate(CheckedAggregate),
+    /// `sum(a over (..))` and its like, and `calc` with an item that is analytic
+    Window(CheckedWindow),
+    /// A `calc` with an item that is analytic inside a join, as `InJoin`.
+    WindowInJoin(CheckedWindow),
+    /// `timeshift(a, n)` and its like
+    Time(CheckedTime),
+    /// `check(a errorcode .. errorlevel .. imbalance .. output)`
+    Check(CheckedCheck),
+    /// `check_datapoint(a, rules output)`
+    Datapoint(CheckedDatapoint),
+    /// `hierarchy(a, rules ..)`, `check_hierarchy(a, rules ..)`
+    Hierarchy(CheckedHierarchy),
 }
 
 /// A name, or an operator on its operands.

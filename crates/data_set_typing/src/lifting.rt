@@ -2,13 +2,14 @@
 ghost use Rattle.std.specs.Prelude.{◌≡◌, Ok, IfOk, IfErr};
 ghost use Rattle.typing_rules.specs.Steps.{Refuses};
 ghost use Rattle.data_set_trees.specs.Pairs as meant;
+ghost use Rattle.data_set_trees.specs.Trees as trees;
 ghost use Rattle.data_set_typing.specs.Plans as own;
 
 use crate::call::Call;
 use crate::plan::Plan;
 use data_set_parts::nodes::{applied, data_sets};
 use data_set_trees::{DataSet, Form, Operand};
-use sqlite_items::Items;
+use sqlite_items::{Boxed, Items};
 use std::alloc::{AllocError, Global};
 use typing_rules::TypeStop;
 use vtl_values::Place;
@@ -29,6 +30,20 @@ fn carried_out(
             structure,
         } => Ok(Operand::DataSet(applied(alloc, operator, place, sets, structure)?)),
     }
+}
+
+/// A plan carried out on the data sets among the operands, or want of memory.
+fn finished(
+    alloc: Global,
+    place: Place,
+    plan: Plan,
+    operands: Items<Operand>,
+) -> Result<Operand, AllocError>
+    ensures { IfOk result (λ operand. operand ≡ own.carried_out place plan (trees.data_sets operands)) }
+{
+    let plan = Boxed::new(alloc, plan)?;
+    let sets = data_sets(alloc, operands)?;
+    carried_out(alloc, place, plan.into_inner(), sets)
 }
 
 /// What a scalar operator at its place is on these operands: a scalar where all are, else a data set; or its first fault, or
@@ -55,6 +70,5 @@ pub fn lifted(
         operands: operands.as_slice(),
     };
     let plan = call.planned()?;
-    let sets = data_sets(alloc, operands)?;
-    Ok(carried_out(alloc, place, plan, sets)?)
+    Ok(finished(alloc, place, plan, operands)?)
 }

@@ -19,7 +19,10 @@ use Rattle.point_sets.specs.Changes.{Changes}
 use Rattle.structured_sets.specs.Fitting.{IsSetOf}
 use Rattle.clause_trees.specs.Frames.{numbers_of}
 use Rattle.data_set_trees.specs.Exists.{common_agree, exists_structure}
-use Rattle.checked_trees.specs.Operators.{Operator}
+use Rattle.data_set_trees.specs.declared.tree.DataSetOperator.{DataSetOperator}
+use Rattle.data_set_trees.specs.declared.tree.DataSetOperator.TheVariants.{ExistsIn}
+use Rattle.checked_trees.specs.Operators.{Operator, IsTyped, IsTypedExists, TakesOperands, an_operator}
+use Rattle.operator_meaning.specs.Operators.{meaning_of, AreOperands}
 use Rattle.held_index.specs.Drafts.{SetDraft}
 use Rattle.held_index.specs.Holdings.{Holding}
 use Rattle.held_index.specs.Rules.{answer_of, after_news, AreAsked, IsRightAnswer}
@@ -31,7 +34,7 @@ use Rattle.exists_meaning.specs.Exists.{ExistsOn, exists_on, exists_meaning}
 use Rattle.exists_meaning.specs.Typed.{IsTypedExistsOn}
 use Rattle.exists_ops.specs.Parts.{AreShifts, left_want, right_numbers, right_want, shared_number}
 use Rattle.exists_ops.specs.Noted.{IsFor, IsNoted}
-use Rattle.exists_ops.specs.Rules.{both, operator_of, meaning_of, wanted_of, AreOperands, IsExists}
+use Rattle.exists_ops.specs.Rules.{both, operator_of, wanted_of, IsExists}
 use Rattle.pair_ops.specs.Reach.{matching_reach}
 use Rattle.exists_ops.specs.Walked.{walked, cost}
 use Rattle.exists_ops.specs.declared.parts.Shift.{Shift}
@@ -63,16 +66,24 @@ heads a b c d e = (cc, cc)
 
 -- ---- what the rule keeps
 
-pub typed-on : (o : Operator) (is : IsExists o) (rows : ExistsRows) (l r s : List Component) → l ∷ r ∷ [] ≡ o.operands → s ≡ o.structure → IsTypedExistsOn (exists_on rows l r s)
-typed-on o is rows l r s operands structure =
-    let same = heads l r is.takes.left is.takes.right (operands ∙ is.takes.two) in
-    let all : All IsStructure (l ∷ r ∷ []) = subst (All IsStructure) (sym operands) is.structures in
+-- an operator `exists_in` that is well typed takes two operands
+pub takes-two : (o : Operator) → IsTyped o → IsExists o.operator → IsTypedExists o.operands o.structure
+takes-two o typed exists = subst (λ (operator : DataSetOperator). TakesOperands (an_operator operator o.operands o.structure)) exists.1 typed.takes
+
+-- and is well typed on them, in the form in which the rule keeps it
+pub typed-on : (o : Operator) → IsTyped o → (rows : ExistsRows) (l r s : List Component) → o.operator ≡ ExistsIn rows → l ∷ r ∷ [] ≡ o.operands → s ≡ o.structure → IsTyped (operator_of (exists_on rows l r s))
+typed-on o typed rows l r s is operands structure = subst (λ (q : Operator). IsTyped q) (λ i. an_operator (is i) (sym operands i) (sym structure i)) typed
+
+pub typed-two : (e : ExistsOn) → IsTyped (operator_of e) → IsTypedExistsOn e
+typed-two e typed =
+    let takes : IsTypedExists (e.left ∷ e.right ∷ []) e.structure = typed.takes in
+    let same = heads e.left e.right takes.left takes.right takes.two in
     record {
-      left_is = All-head IsStructure l (r ∷ []) all;
-      right_is = All-head IsStructure r [] (All-tail IsStructure l (r ∷ []) all);
-      structure_is = subst IsStructure (sym structure) is.result;
-      kinds_agree = (λ i. common_agree (same.0 i) (same.1 i)) ∙ is.takes.kinds_match;
-      is_first = structure ∙ is.takes.gives ∙ ap exists_structure (sym same.0);
+      left_is = All-head IsStructure e.left (e.right ∷ []) typed.structures;
+      right_is = All-head IsStructure e.right [] (All-tail IsStructure e.left (e.right ∷ []) typed.structures);
+      structure_is = typed.result;
+      kinds_agree = (λ i. common_agree (same.0 i) (same.1 i)) ∙ takes.kinds_match;
+      is_first = takes.gives ∙ ap exists_structure (sym same.0);
     }
 
 pub wants-built : (rows : ExistsRows) (l r s ours theirs : List Component) (n m : List ℕ) → ours ≡ l → theirs ≡ r → n ≡ filter_map (shared_number ours ours) theirs → m ≡ filter_map (shared_number theirs ours) theirs → in_parts 0 n ∷ in_parts 1 m ∷ [] ≡ both (exists_on rows l r s)

@@ -1,7 +1,7 @@
 // The rule of `exists_in`.
 ghost use Rattle.std.specs.Prelude.{◌≡◌, IfOk};
-ghost use Rattle.vtl_syntax.specs.declared.words.ExistsRows.{ExistsRows as Rows};
 ghost use Rattle.data_set_trees.specs.declared.tree.DataSetOperator.TheVariants.{ExistsIn};
+ghost use Rattle.exists_ops.specs.Rules.{IsExists};
 
 use crate::notes::{note_changes, note_parts};
 use crate::numbers::{numbers_in, viral_numbers};
@@ -46,7 +46,7 @@ impl Model for ExistsRule {
 
 /// The rows that an operator keeps.
 fn rows_of(operator: &DataSetOperator) -> ExistsRows
-    requires { (rows : Rows) × (operator.now ≡ ExistsIn rows) }
+    requires { IsExists operator.now }
     ensures { operator.now ≡ ExistsIn result }
 {
     match operator {
@@ -56,12 +56,12 @@ fn rows_of(operator: &DataSetOperator) -> ExistsRows
 }
 
 impl ExistsRule {
-    ghost use Rattle.checked_trees.specs.Operators.{an_operator};
-    ghost use Rattle.exists_ops.specs.Rules.{IsExists};
+    ghost use Rattle.checked_trees.specs.Operators.{an_operator, IsTyped};
 
     /// The rule of a node's operator, which is `exists_in`.
     pub fn of(alloc: Global, node: &DataSetNode) -> Result<ExistsRule, AllocError>
-        requires { IsExists (an_operator node.now.operator node.now.operands node.now.structure) }
+        requires typed { IsTyped (an_operator node.now.operator node.now.operands node.now.structure) }
+        requires exists { IsExists node.now.operator }
         ensures { IfOk result (λ rule. rule ≡ an_operator node.now.operator node.now.operands node.now.structure) }
     {
         let operands = node.operands.as_slice();
@@ -81,20 +81,14 @@ impl ExistsRule {
             wants: Items::from_vec(wants),
         })
     }
-
-    /// The rows that the operator keeps, which is `exists_in`.
-    pub fn rows(&self) -> ExistsRows
-        ensures { self.now.operator ≡ ExistsIn result }
-    {
-        self.told.rows
-    }
 }
 
 impl DeltaRule for ExistsRule {
     ghost use Rattle.std.specs.Prelude.{length};
+    ghost use Rattle.operator_meaning.specs.Operators.{meaning_of, AreOperands};
     ghost use Rattle.pair_ops.specs.Reach.{matching_reach};
     ghost use Rattle.pair_ops.specs.ReachLaws.{no_reach};
-    ghost use Rattle.exists_ops.specs.Rules.{meaning_of, wanted_of, AreOperands};
+    ghost use Rattle.exists_ops.specs.Rules.{wanted_of};
 
     ghost arity = { λ r. length r.operands };
 

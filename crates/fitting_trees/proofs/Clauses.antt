@@ -33,8 +33,8 @@ use Rattle.clause_trees.specs.Clauses.{IsItemOf, filter_typed, item_typed, calc_
 use Rattle.clause_trees.specs.WellTyped.{kinds_on, is_of, is_well_typed}
 use Rattle.clause_trees.proofs.Made.{met}
 use Rattle.clause_trees.proofs.Typed.{items_well_typed, renames_there}
-use Rattle.data_set_trees.specs.OnClauses.{item_checked, items_checked, clause_step, clause_checked}
-use Rattle.literal_ranges.specs.Ranges.{all_are, range_step, clause_range_step, item_range_step, operand_range_step, part_range_step, literals_in_range, clause_in_range, item_in_range}
+use Rattle.expression_rules.specs.OnClauses.{item_checked, items_checked, clause_step, clause_checked}
+use Rattle.literal_ranges.specs.Ranges.{all_are, range_step, clause_range_step, item_range_step, operand_range_step, part_range_step, groups_range_step, literals_in_range, clause_in_range, item_in_range}
 use Rattle.fitting_trees.proofs.Scalars.{answered, ranges, scalar-typed, gave}
 
 whole-own : (first : Kind) (kind : Option Kind) → is_exactly kind (whole_kind first kind) ≡ true
@@ -50,7 +50,7 @@ pub widened-is : (kinds : Kinds) (kind : Kind) (a : Typed) → IsTyped kinds a �
 widened-is kinds kind a h stands = ap (λ (f : Kind → Bool). f kind) (widened-exact kinds kind a.kind a.tree h stands) ∙ exact-own kind a.kind
 
 -- what is wanted is of that kind
-wanted-is : (kinds : Kinds) (place : Place) (kind : Kind) (a : Typed) (t : CheckedExpr) → IsTyped kinds a → wanted place kind a ≡ Ok t → is_of_kind kinds t kind ≡ true
+pub wanted-is : (kinds : Kinds) (place : Place) (kind : Kind) (a : Typed) (t : CheckedExpr) → IsTyped kinds a → wanted place kind a ≡ Ok t → is_of_kind kinds t kind ≡ true
 wanted-is kinds place kind a t h e = by_kind (may_stand kind a.kind) refl e
   where
     by_kind : (b : Bool) → may_stand kind a.kind ≡ b → (or_refused (cond (b && true) (Some kind) None) WrongType place >>= (λ r. Ok (widened r a))) ≡ Ok t → is_of_kind kinds t kind ≡ true
@@ -59,14 +59,14 @@ wanted-is kinds place kind a t h e = by_kind (may_stand kind a.kind) refl e
 
 -- ---- ranges, level by level
 
-abbrev level_range : Clause-F Clause Expr Groups Item JoinOperand SubstrRange → Bool
+abbrev pub level_range : Clause-F Clause Expr Groups Item JoinOperand SubstrRange → Bool
 level_range x = clause_range_step (map-Clause Clause Expr Groups Item JoinOperand SubstrRange Bool Bool Bool Bool Bool Bool ranges.on_Clause ranges.on_Expr ranges.on_Groups ranges.on_Item ranges.on_JoinOperand ranges.on_SubstrRange x)
 
-clause-range : (c : Clause) → clause_in_range c ≡ level_range (out-Clause c)
-clause-range c = ap clause_in_range (sym (roll-out-Clause c)) ∙ fold-roll-Clause Bool Bool Bool Bool Bool Bool clause_range_step range_step (λ groups. true) item_range_step operand_range_step part_range_step (out-Clause c)
+pub clause-range : (c : Clause) → clause_in_range c ≡ level_range (out-Clause c)
+clause-range c = ap clause_in_range (sym (roll-out-Clause c)) ∙ fold-roll-Clause Bool Bool Bool Bool Bool Bool clause_range_step range_step groups_range_step item_range_step operand_range_step part_range_step (out-Clause c)
 
-item-range : (i : Item) → item_in_range i ≡ literals_in_range (out-Item i).expr
-item-range i = ap item_in_range (sym (roll-out-Item i)) ∙ fold-roll-Item Bool Bool Bool Bool Bool Bool clause_range_step range_step (λ groups. true) item_range_step operand_range_step part_range_step (out-Item i)
+pub item-range : (i : Item) → item_in_range i ≡ literals_in_range (out-Item i).expr
+item-range i = ap item_in_range (sym (roll-out-Item i)) ∙ fold-roll-Item Bool Bool Bool Bool Bool Bool clause_range_step range_step groups_range_step item_range_step operand_range_step part_range_step (out-Item i)
 
 module _ (frame : Frame) where
   abbrev IsOfItsKind : CheckedItem → Type 0
@@ -86,7 +86,7 @@ module _ (frame : Frame) where
       let value = gave (typed (scope_of_frame frame) Point item.expr) (λ t. Ok (item_typed frame item.role item.name t)) first.0 first.1 in
       let own : item_typed frame item.role item.name value.0 ≡ first.0 = answered (item_typed frame item.role item.name value.0) first.0 value.2 in
       let in_range : literals_in_range item.expr ≡ true = sym (item-range i) ∙ left (item_in_range i) (all_are (map item_in_range items)) r in
-      let well = scalar-typed item.expr in_range (scope_of_frame frame) value.0 value.1 in
+      let well = scalar-typed item.expr in_range (scope_of_frame frame) Point value.0 value.1 in
       let more = items-checked items others.0 (right (item_in_range i) (all_are (map item_in_range items)) r) others.1 in
       subst AreChecked (answered (first.0 ∷ others.0) cs others.2) (record {
         made = All-cons (IsItemOf frame) first.0 others.0 (record { stated = item.role; name = item.name; value = value.0; is = sym own }) more.made;
@@ -100,7 +100,7 @@ module _ (frame : Frame) where
   level-typed (Clause-F.Filter condition place) c r h =
       let value = gave (typed (scope_of_frame frame) Point condition) (filter_typed place) c h in
       let truth = gave (wanted place Truth value.0) (λ t. Ok (clause.Filter t)) c value.2 in
-      let well = scalar-typed condition r (scope_of_frame frame) value.0 value.1 in
+      let well = scalar-typed condition r (scope_of_frame frame) Point value.0 value.1 in
       subst IsWell (answered (clause.Filter truth.0) c truth.2) (wanted-is (kinds_on frame) place Truth value.0 truth.0 well truth.1)
   level-typed (Clause-F.Calc items place) c r h =
       let all = gave (items_checked frame items) (λ checked. calc_typed place checked frame) c h in

@@ -30,19 +30,20 @@ use Rattle.data_set_trees.specs.declared.form.Form.TheVariants as form
 use Rattle.data_set_trees.specs.declared.operand.DataSet.{DataSet}
 use Rattle.data_set_trees.specs.declared.operand.Operand.{Operand}
 use Rattle.data_set_trees.specs.declared.tree.Source.{Source}
-use Rattle.data_set_trees.specs.Expressions.{Naming, Typing, RangeTyping, all_typed, typings, on_operands, form_of_function, operation_of, difference_of, sorted, choice_of, join_aliases, clauses_of, typed_step, operand_step, range_step, typing, typed}
+use Rattle.expression_rules.specs.Expressions.{Naming, Typing, RangeTyping, all_typed, typings, on_operands, form_of_function, operation_of, difference_of, sorted, choice_of, join_aliases, clauses_of, typed_step, operand_step, range_step, typing, typed}
 use Rattle.data_set_trees.specs.Exists.{exists_typed}
-use Rattle.data_set_trees.specs.Joins.{join_typed}
+use Rattle.expression_rules.specs.JoinClauses.{join_typed}
 use Rattle.data_set_trees.specs.Members.{member_typed}
-use Rattle.data_set_trees.specs.OnClauses.{on_clause}
+use Rattle.expression_rules.specs.OnClauses.{on_clause}
+use Rattle.expression_rules.specs.OnSets.{on_aggregate, on_window, on_offset, on_time, on_shift, on_fill}
 use Rattle.data_set_trees.specs.Pairs.{lifted}
 use Rattle.data_set_trees.specs.Sets.{sets_typed}
 use Rattle.data_set_trees.specs.Trees.{SetAnswer}
 use Rattle.fitting_trees.specs.Fitting.{IsFitting}
-use Rattle.literal_ranges.specs.Ranges.{if_given, all_are, range_step as ranged, clause_range_step, item_range_step, operand_range_step, part_range_step, literals_in_range, clause_in_range, operand_in_range, part_in_range}
+use Rattle.literal_ranges.specs.Ranges.{if_given, all_are, range_step as ranged, clause_range_step, item_range_step, operand_range_step, part_range_step, groups_range_step, literals_in_range, clause_in_range, groups_in_range, operand_in_range, part_in_range}
 use Rattle.fitting_trees.proofs.Joins.{join_typed-fits}
 use Rattle.fitting_trees.proofs.Lifted.{form_in_range}
-use Rattle.fitting_trees.proofs.Rows.{IsFit, Fits, lifted-fits, literal-fits, named-fits, sorted-fits, member-fits, exists-fits, sets_typed-fits, choice-fits, on_clause-fits}
+use Rattle.fitting_trees.proofs.Rows.{IsFit, Fits, lifted-fits, literal-fits, named-fits, sorted-fits, member-fits, exists-fits, sets_typed-fits, choice-fits, on_clause-fits, on_aggregate-fits, on_window-fits, on_offset-fits, on_time-fits, on_shift-fits, on_fill-fits}
 use Rattle.fitting_trees.proofs.Scalars.{answered, Truths, ranges, level-in_range, part-in_range, gave}
 
 function-ranged : (f : BinaryFunction) → form_in_range (form_of_function f) ≡ true
@@ -268,6 +269,14 @@ module _ (structures : Source → Option (List Component)) (among : Source → T
       (sets_typed-fits structures among (operation_of f) place)
   level (Expr-F.Join f a b others filter calc keep rename place) r = join-level f a b others filter calc keep rename place r
   level (Expr-F.Difference f a b place) r = after_all (type_of a ∷ type_of b ∷ []) (sets_typed (difference_of f) place) (two-of a b r) (sets_typed-fits structures among (difference_of f) place)
+  level (Expr-F.Aggregate f a None place) r = after_one (type_of a) (on_aggregate f None place) (a.1 (left (good a) true r)) (on_aggregate-fits structures among f None place refl)
+  level (Expr-F.Aggregate f a (Some g) place) r =
+      after_one (type_of a) (on_aggregate f (Some g.0) place) (a.1 (left (good a) (groups_in_range g.0) r)) (on_aggregate-fits structures among f (Some g.0) place (right (good a) (groups_in_range g.0) r))
+  level (Expr-F.Window f a over place) r = after_one (type_of a) (on_window f over place) (a.1 r) (on_window-fits structures among f over place)
+  level (Expr-F.Offset f a offset over place) r = after_one (type_of a) (on_offset f offset over place) (a.1 r) (on_offset-fits structures among f offset over place)
+  level (Expr-F.Time f a place) r = after_one (type_of a) (on_time f place) (a.1 r) (on_time-fits structures among f place)
+  level (Expr-F.Timeshift a shift place) r = after_one (type_of a) (on_shift shift place) (a.1 r) (on_shift-fits structures among shift place)
+  level (Expr-F.FillTimeSeries a span place) r = after_one (type_of a) (on_fill span place) (a.1 r) (on_fill-fits structures among span place)
   level _ r = λ o e. cc
 
   -- ---- whole expressions
@@ -295,7 +304,7 @@ module _ (structures : Source → Option (List Component)) (among : Source → T
   operand_at : (y : JoinOperand-F Such.of_Clause Such.of_Expr Such.of_Groups Such.of_Item Such.of_JoinOperand Such.of_SubstrRange) → operand_in_range (roll-JoinOperand (over-JoinOperand {X = Such} {Y = Trees} firsts y)) ≡ true → Good (operand_typing (roll-JoinOperand (over-JoinOperand {X = Such} {Y = Trees} firsts y)))
   operand_at y r =
       let x = over-JoinOperand {X = Such} {Y = Trees} firsts y in
-      let own = sym (fold-roll-JoinOperand Bool Bool Bool Bool Bool Bool clause_range_step ranged (λ groups. true) item_range_step operand_range_step part_range_step x) ∙ r in
+      let own = sym (fold-roll-JoinOperand Bool Bool Bool Bool Bool Bool clause_range_step ranged groups_range_step item_range_step operand_range_step part_range_step x) ∙ r in
       subst Good (sym (para-roll-JoinOperand ⊤ Typing ⊤ ⊤ Typing RangeTyping (λ clause. tt) typed_step (λ groups. tt) (λ item. tt) operand_step range_step x)) (y.expr.1 own)
 
   pub typed-fits : (e : Expr) → literals_in_range e ≡ true → (o : Operand) → typed naming e ≡ Ok o → IsFit structures among o

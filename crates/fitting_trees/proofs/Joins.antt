@@ -23,8 +23,9 @@ use Rattle.data_set_trees.specs.declared.operand.Operand.TheVariants as operand
 use Rattle.data_set_trees.specs.declared.tree.DataSetOperator.TheVariants as operator
 use Rattle.data_set_trees.specs.declared.tree.Source.{Source}
 use Rattle.data_set_trees.specs.Components.{unlisted, names_differ}
-use Rattle.data_set_trees.specs.Joins.{Placed, Aliased, may_join, join_components, structures_of, aliases_differ, all_aliased, join_frame, inside, after_all, numbered, structure_before, with_clauses, joined, join_of, join_typed}
-use Rattle.data_set_trees.specs.OnClauses.{clause_checked}
+use Rattle.data_set_trees.specs.Joins.{Aliased, may_join, join_components, structures_of, aliases_differ, all_aliased, join_frame, numbered}
+use Rattle.expression_rules.specs.JoinClauses.{Placed, inside, after_all, structure_before, with_clauses, joined, join_of, join_typed}
+use Rattle.expression_rules.specs.OnClauses.{clause_checked}
 use Rattle.data_set_trees.specs.Sets.{all_data_sets}
 use Rattle.data_set_trees.specs.Trees.{SetAnswer, applied}
 use Rattle.checked_trees.specs.Operators.{IsTypedJoin, IsTypedInJoin, unnamed}

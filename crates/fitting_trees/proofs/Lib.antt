@@ -1,5 +1,9 @@
 pub mod Scalars
 pub mod Clauses
+pub mod Numbered
+pub mod Aggregates
+pub mod Windows
+pub mod Times
 pub mod Applied
 pub mod Components
 pub mod Lifted

@@ -1,5 +1,5 @@
 -- What each form of an expression is checked to be fits, where its operands do.
-use Rattle.std.proofs.Common.{◌≡◌, refl, ℕ, Bool, true, false, ◌&&◌, List, [], ◌∷◌, map, length, Option, Some, None, Ok, subst, ◌∙◌, if◌then◌else◌}
+use Rattle.std.proofs.Common.{◌≡◌, refl, ℕ, ℤ, Bool, true, false, ◌&&◌, List, [], ◌∷◌, map, length, Option, Some, None, Result, Ok, sym, subst, ◌∙◌, if◌then◌else◌}
 use Rattle.std.proofs.lemmas.List.Folds.{list_all-map}
 use Rattle.std.proofs.lemmas.List.Elements.{All-nil, All-cons, All-head, All-tail}
 use Rattle.std.specs.Prelude.{unwrap_or, option_map}
@@ -11,9 +11,22 @@ use Rattle.vtl_syntax.specs.declared.words.ExistsRows.{ExistsRows}
 use Rattle.vtl_syntax.specs.declared.words.ExistsRows.TheVariants as rows
 use Rattle.vtl_syntax.specs.declared.words.Sort.{Sort}
 use Rattle.vtl_syntax.specs.declared.words.Sort.TheVariants as sort
-use Rattle.vtl_syntax.specs.declared.expr.Clause.{Clause}
+use Rattle.vtl_syntax.specs.declared.words.AggregateFunction.{AggregateFunction}
+use Rattle.vtl_syntax.specs.declared.words.FillSpan.{FillSpan}
+use Rattle.vtl_syntax.specs.declared.words.OffsetFunction.{OffsetFunction}
+use Rattle.vtl_syntax.specs.declared.words.TimeFunction.{TimeFunction}
+use Rattle.vtl_syntax.specs.declared.words.WindowFunction.{WindowFunction}
+use Rattle.vtl_syntax.specs.declared.expr.Clause.{Clause, out-Clause}
+use Rattle.vtl_syntax.specs.declared.expr.Clause.TheOpen.{Clause-F}
+use Rattle.vtl_syntax.specs.declared.expr.Expr.{Expr}
+use Rattle.vtl_syntax.specs.declared.expr.Groups.{Groups}
+use Rattle.vtl_syntax.specs.declared.expr.Item.{Item}
+use Rattle.vtl_syntax.specs.declared.expr.JoinOperand.{JoinOperand}
+use Rattle.vtl_syntax.specs.declared.expr.Over.{Over}
+use Rattle.vtl_syntax.specs.declared.expr.SubstrRange.{SubstrRange}
 use Rattle.scalar_trees.specs.WellTyped.{Kinds, in_range}
 use Rattle.typing_rules.specs.declared.stop.Fault.{Fault}
+use Rattle.typing_rules.specs.declared.stop.Refusal.{Refusal}
 use Rattle.typing_rules.specs.declared.stop.Fault.TheVariants.{UnknownComponent, WrongType, WrongStructure, NameTwice}
 use Rattle.typing_rules.specs.Scalars.{literal_typed, if_typed, sort_typed, place_of}
 use Rattle.typing_rules.specs.Sound.{IsTyped}
@@ -26,32 +39,43 @@ use Rattle.clause_trees.specs.declared.clause.CheckedMeasure.{CheckedMeasure}
 use Rattle.clause_trees.specs.Frames.{frame_of}
 use Rattle.clause_trees.specs.Clauses.{demands}
 use Rattle.clause_trees.specs.WellTyped.{kinds_on, is_of}
+use Rattle.aggregate_trees.specs.Aggregates.{aggregate_checked, aggr_checked}
+use Rattle.aggregate_trees.specs.Results.{grouped}
+use Rattle.window_trees.specs.Windows.{window_checked, offset_checked}
+use Rattle.time_trees.specs.Times as times
+use Rattle.time_trees.specs.Times.{time_checked, shift_checked, fill_checked}
 use Rattle.data_set_trees.specs.declared.form.Form.{Form}
 use Rattle.data_set_trees.specs.declared.measure.Measure.{Measure}
 use Rattle.data_set_trees.specs.declared.operand.DataSet.{DataSet}
 use Rattle.data_set_trees.specs.declared.operand.Operand.{Operand}
 use Rattle.data_set_trees.specs.declared.operand.Operand.TheVariants as operand
 use Rattle.data_set_trees.specs.declared.tree.ChoiceMeasure.{ChoiceMeasure}
+use Rattle.data_set_trees.specs.declared.tree.DataSetOperator.{DataSetOperator}
 use Rattle.data_set_trees.specs.declared.tree.DataSetOperator.TheVariants as operator
 use Rattle.data_set_trees.specs.declared.tree.SetOperation.{SetOperation}
 use Rattle.data_set_trees.specs.declared.tree.Source.{Source}
 use Rattle.data_set_trees.specs.Components.{measures, virals_agree, are_alike, unlisted}
 use Rattle.data_set_trees.specs.Choices.{condition_fits, branches_fit, structures_fit, choice_measures, first_measures, choice_structure, chosen_ids, branch_of, choice_on, choice_typed}
 use Rattle.data_set_trees.specs.Exists.{common_agree, exists_structure, exists_typed}
-use Rattle.data_set_trees.specs.Expressions.{sorted, named_typed}
+use Rattle.expression_rules.specs.Expressions.{sorted, named_typed}
 use Rattle.data_set_trees.specs.Forms.{changed_name, is_of_two}
 use Rattle.data_set_trees.specs.Lifted.{answer, each_fits, all_fit, has_one_if, is_free, set_place, measures_checked, on_none, on_one, on_many}
 use Rattle.data_set_trees.specs.Members.{member_from, member_typed}
-use Rattle.data_set_trees.specs.OnClauses.{clause_checked, on_clause}
+use Rattle.expression_rules.specs.OnClauses.{clause_checked, on_points, by_form, on_clause}
+use Rattle.expression_rules.specs.OnSets as rules
+use Rattle.expression_rules.specs.OnSets.{with_operator, on_set, on_aggregate, on_aggr, on_window, on_offset, on_time, on_shift, on_fill}
 use Rattle.data_set_trees.specs.Pairs.{identifiers_agree, measures_agree, meeting, both as both_slots, joined, result_fits, pairs_checked, on_two, lifted_on, lifted}
 use Rattle.data_set_trees.specs.Sets.{all_data_sets, set_of, sets_typed}
 use Rattle.data_set_trees.specs.Trees.{SetAnswer, applied, with_clause, data_sets}
-use Rattle.checked_trees.specs.Operators.{kinds_on_both, IsPairOf, IsTypedPair, IsTypedSet, IsTypedExists, IsTypedChoice}
+use Rattle.checked_trees.specs.Operators.{an_operator, kinds_on_both, IsPairOf, IsTypedPair, IsTypedSet, IsTypedExists, IsTypedChoice, TakesOperands}
 use Rattle.fitting_trees.specs.Fitting.{IsFitting}
-use Rattle.literal_ranges.specs.Ranges.{clause_in_range}
+use Rattle.literal_ranges.specs.Ranges.{if_given, all_are, clause_in_range, groups_in_range, item_in_range}
+use Rattle.fitting_trees.proofs.Aggregates.{aggregate-typed, aggr-typed}
+use Rattle.fitting_trees.proofs.Windows.{window-typed, offset-typed}
+use Rattle.fitting_trees.proofs.Times.{time-typed, shift-typed, fill-typed}
 use Rattle.fitting_trees.proofs.Applied.{applied-fits, clause-fits}
 use Rattle.fitting_trees.proofs.Choices.{structures_of, kinds_in, choice-typed}
-use Rattle.fitting_trees.proofs.Clauses.{clause-typed}
+use Rattle.fitting_trees.proofs.Clauses.{clause-typed, level_range, clause-range}
 use Rattle.fitting_trees.proofs.Components.{measures-there, member-is}
 use Rattle.fitting_trees.proofs.Lifted.{form_in_range, ScalarFits, SlotFits, answer-typed, measures-typed, pairs-typed}
 use Rattle.fitting_trees.proofs.Pairs.{both-there}
@@ -284,9 +308,61 @@ module _ (structures : Source → Option (List Component)) (among : Source → T
 
   -- ---- clauses
 
-  pub on_clause-fits : (written : Clause) → clause_in_range written ≡ true → (a : Operand) → IsFit a → Fits (on_clause written a)
-  on_clause-fits written r (operand.Scalar t) h o e = cc
-  on_clause-fits written r (operand.DataSet d) h o e =
+  on_points-fits : (written : Clause) → clause_in_range written ≡ true → (a : Operand) → IsFit a → Fits (on_points written a)
+  on_points-fits written r (operand.Scalar t) h o e = cc
+  on_points-fits written r (operand.DataSet d) h o e =
       let set : CheckedClause → DataSet = λ c. with_clause c (place_of written) d in
       let checked = gave (clause_checked written (frame_of d.structure)) (λ c. Ok (operand.DataSet (set c))) o e in
       given-fits (operand.DataSet (set checked.0)) o (clause-fits structures among checked.0 (place_of written) d h (clause-typed (frame_of d.structure) written checked.0 r checked.1)) checked.2
+
+  -- ---- operators on one data set
+
+  -- what it is checked to be takes the data set
+  on_set-fits : {X : Type 0} (checked : List Component → Result X Refusal) (of : X → DataSetOperator) (after : X → List Component → List Component) (place : Place)
+      → ((s : List Component) (x : X) → checked s ≡ Ok x → TakesOperands (an_operator (of x) (s ∷ []) (map unlisted (after x s)))) → (a : Operand) → IsFit a → Fits (on_set checked of after place a)
+  on_set-fits checked of after place takes (operand.Scalar t) h o e = cc
+  on_set-fits {X} checked of after place takes (operand.DataSet d) h o e =
+      let set : X → DataSet = λ x. with_operator (of x) (after x) place d in
+      let own = gave (checked d.structure) (λ x. Ok (operand.DataSet (set x))) o e in
+      given-fits (operand.DataSet (set own.0)) o (applied-fits structures among (of own.0) place (d ∷ []) (map unlisted (after own.0 d.structure)) (All-cons SetFits d [] h (All-nil SetFits)) (takes d.structure own.0 own.1)) own.2
+
+  pub on_aggregate-fits : (f : AggregateFunction) (groups : Option Groups) (place : Place) → if_given (option_map groups_in_range groups) ≡ true → (a : Operand) → IsFit a → Fits (on_aggregate f groups place a)
+  on_aggregate-fits f groups place r =
+      on_set-fits (aggregate_checked f place groups) operator.Aggregate grouped place (λ s x e. record { operand = s; one = refl; well = aggregate-typed f place groups s x r e; after_it = refl })
+
+  on_aggr-fits : (items : List Item) (groups : Option Groups) (place : Place) → all_are (map item_in_range items) ≡ true → if_given (option_map groups_in_range groups) ≡ true → (a : Operand) → IsFit a → Fits (on_aggr items groups place a)
+  on_aggr-fits items groups place q r =
+      on_set-fits (aggr_checked place items groups) operator.Aggregate grouped place (λ s x e. record { operand = s; one = refl; well = aggr-typed place items groups s x q r e; after_it = refl })
+
+  pub on_window-fits : (f : WindowFunction) (over : Over) (place : Place) → (a : Operand) → IsFit a → Fits (on_window f over place a)
+  on_window-fits f over place = on_set-fits (window_checked f over place) operator.Window rules.window_after place (λ s x e. record { operand = s; one = refl; well = window-typed f over place s x e; after_it = refl })
+
+  pub on_offset-fits : (f : OffsetFunction) (offset : ℤ) (over : Over) (place : Place) → (a : Operand) → IsFit a → Fits (on_offset f offset over place a)
+  on_offset-fits f offset over place =
+      on_set-fits (offset_checked f offset over place) operator.Window rules.window_after place (λ s x e. record { operand = s; one = refl; well = offset-typed f offset over place s x e; after_it = refl })
+
+  pub on_time-fits : (f : TimeFunction) (place : Place) → (a : Operand) → IsFit a → Fits (on_time f place a)
+  on_time-fits f place = on_set-fits (time_checked f place) operator.Time times.after place (λ s x e. record { operand = s; one = refl; well = time-typed f place s x e; after_it = refl })
+
+  pub on_shift-fits : (places : ℤ) (place : Place) → (a : Operand) → IsFit a → Fits (on_shift places place a)
+  on_shift-fits places place = on_set-fits (shift_checked places place) operator.Time times.after place (λ s x e. record { operand = s; one = refl; well = shift-typed places place s x e; after_it = refl })
+
+  pub on_fill-fits : (span : Option FillSpan) (place : Place) → (a : Operand) → IsFit a → Fits (on_fill span place a)
+  on_fill-fits span place = on_set-fits (fill_checked span place) operator.Time times.after place (λ s x e. record { operand = s; one = refl; well = fill-typed span place s x e; after_it = refl })
+
+  -- ---- any clause
+
+  clause_form-fits : (x : Clause-F Clause Expr Groups Item JoinOperand SubstrRange) (written : Clause) → level_range x ≡ true → clause_in_range written ≡ true → (a : Operand) → IsFit a → Fits (by_form x written a)
+  clause_form-fits (Clause-F.Aggr items None place) written q r = on_aggr-fits items None place (left (all_are (map item_in_range items)) true q) refl
+  clause_form-fits (Clause-F.Aggr items (Some groups) place) written q r =
+      on_aggr-fits items (Some groups) place (left (all_are (map item_in_range items)) (groups_in_range groups) q) (right (all_are (map item_in_range items)) (groups_in_range groups) q)
+  clause_form-fits (Clause-F.Filter condition place) written q r = on_points-fits written r
+  clause_form-fits (Clause-F.Calc items place) written q r = on_points-fits written r
+  clause_form-fits (Clause-F.Keep names place) written q r = on_points-fits written r
+  clause_form-fits (Clause-F.Drop names place) written q r = on_points-fits written r
+  clause_form-fits (Clause-F.Rename renames place) written q r = on_points-fits written r
+  clause_form-fits (Clause-F.Sub items place) written q r = on_points-fits written r
+  clause_form-fits (Clause-F.Unpivot identifier measure place) written q r = on_points-fits written r
+
+  pub on_clause-fits : (written : Clause) → clause_in_range written ≡ true → (a : Operand) → IsFit a → Fits (on_clause written a)
+  on_clause-fits written r = clause_form-fits (out-Clause written) written (sym (clause-range written) ∙ r) r

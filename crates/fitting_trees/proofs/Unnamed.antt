@@ -34,7 +34,8 @@ use Rattle.clause_trees.proofs.Changes.{changed-later}
 use Rattle.clause_trees.proofs.Ordered.{part}
 use Rattle.clause_trees.proofs.Parts.{left_from, picked_are}
 use Rattle.data_set_trees.specs.Components.{unlisted}
-use Rattle.data_set_trees.specs.Joins.{Placed, numbered, structure_before}
+use Rattle.data_set_trees.specs.Joins.{numbered}
+use Rattle.expression_rules.specs.JoinClauses.{Placed, structure_before}
 use Rattle.checked_trees.specs.Operators.{unnamed}
 
 -- a component of a result, without its name

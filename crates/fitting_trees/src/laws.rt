@@ -6,7 +6,7 @@ ghost use Rattle.data_set_trees.specs.declared.operand.DataSet.{DataSet};
 ghost use Rattle.data_set_trees.specs.declared.operand.Operand.TheVariants as operand;
 ghost use Rattle.data_set_trees.specs.declared.tree.DataSetTree.TheVariants as tree;
 ghost use Rattle.data_set_trees.specs.declared.tree.Source.{Source};
-ghost use Rattle.data_set_trees.specs.Expressions.{Naming, typed};
+ghost use Rattle.expression_rules.specs.Expressions.{Naming, typed};
 ghost use Rattle.fitting_trees.specs.Fitting.{IsFitting};
 ghost use Rattle.literal_ranges.specs.Ranges.{literals_in_range};
 

@@ -38,8 +38,8 @@ use Rattle.clause_trees.proofs.Changes.{All-changed, AllPairs-changed, All-added
 use Rattle.clause_trees.proofs.Made.{IsPlain, items_plain, met}
 use Rattle.clause_trees.proofs.Ordered.{part}
 use Rattle.clause_trees.proofs.Parts.{picked_are, left_from, left_all, left_pairs}
-use Rattle.data_set_trees.specs.Joins.{Placed, inside}
-use Rattle.data_set_trees.specs.OnClauses.{items_checked, clause_step, clause_checked}
+use Rattle.expression_rules.specs.JoinClauses.{Placed, inside}
+use Rattle.expression_rules.specs.OnClauses.{items_checked, clause_step, clause_checked}
 use Rattle.data_set_parts.specs.Joins.{IsSound, IsOf}
 use Rattle.data_set_parts.proofs.Follows.{gave}
 use Rattle.join_typing.specs.Inside.{FitInside, EachFits, KeepsFitting}

@@ -11,7 +11,7 @@ use Rattle.clause_trees.specs.declared.clause.CheckedItem.{CheckedItem}
 use Rattle.clause_trees.specs.declared.frame.Frame.{Frame}
 use Rattle.clause_trees.specs.Frames.{scope_of_frame}
 use Rattle.clause_trees.specs.Clauses.{IsItemOf, item_typed}
-use Rattle.data_set_trees.specs.OnClauses.{item_checked, items_checked}
+use Rattle.expression_rules.specs.OnClauses.{item_checked, items_checked}
 use Rattle.data_set_parts.proofs.Follows.{gave}
 
 -- what was made of what a step gave

@@ -15,7 +15,8 @@ use Rattle.clause_trees.specs.Frames.{has_role}
 use Rattle.clause_trees.specs.After.{after}
 use Rattle.clause_trees.proofs.Parts.{pairs_head, pairs_tail}
 use Rattle.data_set_trees.specs.Components.{unlisted, names_differ}
-use Rattle.data_set_trees.specs.Joins.{Placed, numbered}
+use Rattle.data_set_trees.specs.Joins.{numbered}
+use Rattle.expression_rules.specs.JoinClauses.{Placed}
 use Rattle.data_set_parts.specs.Joins.{IsSound}
 use Rattle.data_set_parts.proofs.Fits.{structure_is, names_apart, unlisted_is}
 use Rattle.join_typing.specs.Inside.{FitInside, EachFits}

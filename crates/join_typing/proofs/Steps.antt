@@ -14,6 +14,7 @@ use Rattle.data_set_trees.specs.declared.operand.DataSet.{DataSet}
 use Rattle.data_set_trees.specs.declared.operand.Operand.{Operand}
 use Rattle.data_set_trees.specs.declared.operand.Operand.TheVariants as operand
 use Rattle.data_set_trees.specs.Joins as meant
+use Rattle.expression_rules.specs.JoinClauses as rules
 use Rattle.data_set_trees.specs.Sets.{all_data_sets}
 use Rattle.data_set_trees.specs.Trees.{SetAnswer, data_sets}
 use Rattle.data_set_parts.proofs.Follows.{assoc}
@@ -41,12 +42,12 @@ sets_found place (operand.DataSet d ∷ os) = found_sets place (list_all is_set 
 
 module _ (f : JoinFunction) (place : Place) (cs : List Clause) (ds : List DataSet) where
   abbrev ends : Joining → SetAnswer
-  ends join = meant.inside cs join.frame >>= finished join
+  ends join = rules.inside cs join.frame >>= finished join
 
   abbrev joining : Frame → Joining
   joining frame = record { function = f; place = place; sets = ds; frame = frame }
 
-  of_steps : (operands : List meant.Aliased) → meant.join_of f place cs ds operands ≡ ((framed f place operands >>= (λ frame. Ok (joining frame))) >>= ends)
+  of_steps : (operands : List meant.Aliased) → rules.join_of f place cs ds operands ≡ ((framed f place operands >>= (λ frame. Ok (joining frame))) >>= ends)
   of_steps operands =
       let frame = meant.join_frame f operands in
       let asked = clauses.demands place
@@ -57,7 +58,7 @@ module _ (f : JoinFunction) (place : Place) (cs : List Clause) (ds : List DataSe
 
 pub joins_by_steps : JoinsBySteps
 joins_by_steps f place aliases cs operands =
-    let ends = λ (join : Joining). meant.inside cs join.frame >>= finished join in
+    let ends = λ (join : Joining). rules.inside cs join.frame >>= finished join in
     let found = or_refused (all_data_sets operands) WrongStructure place in
     let named = λ (ds : List DataSet). or_refused (meant.all_aliased aliases ds) WrongStructure place in
     let step = λ (ds : List DataSet) (os : List meant.Aliased). framed f place os >>= (λ frame. Ok (record { function = f; place = place; sets = ds; frame = frame })) in

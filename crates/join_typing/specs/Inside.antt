@@ -6,7 +6,7 @@ use Rattle.vtl_syntax.specs.declared.expr.Clause.{Clause}
 use Rattle.clause_trees.specs.declared.frame.Frame.{Frame}
 use Rattle.clause_trees.specs.After.{after}
 use Rattle.clause_trees.specs.Clauses.{MOST_COMPONENTS}
-use Rattle.data_set_trees.specs.Joins.{Placed, inside}
+use Rattle.expression_rules.specs.JoinClauses.{Placed, inside}
 use Rattle.data_set_parts.specs.Joins.{IsSound}
 
 -- components that are a structure but for their names, and not too many

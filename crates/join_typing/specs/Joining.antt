@@ -20,6 +20,7 @@ use Rattle.data_set_trees.specs.declared.operand.Operand.{Operand}
 use Rattle.data_set_trees.specs.declared.operand.Operand.TheVariants as operand
 use Rattle.data_set_trees.specs.Components.{virals, include, has_name, names_differ}
 use Rattle.data_set_trees.specs.Joins as meant
+use Rattle.expression_rules.specs.JoinClauses as rules
 use Rattle.data_set_trees.specs.Sets.{all_data_sets}
 use Rattle.data_set_trees.specs.Trees.{SetAnswer}
 use Rattle.join_typing.specs.declared.joining.Joining.{Joining}
@@ -31,7 +32,7 @@ use Rattle.join_typing.specs.declared.operands.Aliased.{Aliased}
 abbrev pub aliased : Aliased → meant.Aliased
 aliased o = record { alias = o.alias; structure = o.structure }
 
-abbrev pub placed : Placed → meant.Placed
+abbrev pub placed : Placed → rules.Placed
 placed c = record { clause = c.clause; place = c.place }
 
 -- ---- operands
@@ -87,17 +88,17 @@ begun f place aliases operands =
 -- ---- after the clauses
 
 -- at the end no name stands twice
-abbrev pub DifferAtEnd : List meant.Placed → Frame → Type 0
-DifferAtEnd cs frame = names_differ (meant.after_all cs frame).components ≡ true
+abbrev pub DifferAtEnd : List rules.Placed → Frame → Type 0
+DifferAtEnd cs frame = names_differ (rules.after_all cs frame).components ≡ true
 
-abbrev pub joined_of : Joining → List meant.Placed → DataSet
-joined_of join cs = meant.joined join.function join.place join.sets cs join.frame
+abbrev pub joined_of : Joining → List rules.Placed → DataSet
+joined_of join cs = rules.joined join.function join.place join.sets cs join.frame
 
-abbrev pub finished : Joining → List meant.Placed → SetAnswer
-finished join cs = demanded (names_differ (meant.after_all cs join.frame).components) NameTwice join.place >>= (λ differ. Ok (operand.DataSet (joined_of join cs)))
+abbrev pub finished : Joining → List rules.Placed → SetAnswer
+finished join cs = demanded (names_differ (rules.after_all cs join.frame).components) NameTwice join.place >>= (λ differ. Ok (operand.DataSet (joined_of join cs)))
 
 -- ---- the join is these steps
 
 abbrev pub JoinsBySteps : Type 0
 JoinsBySteps = (f : JoinFunction) (place : Place) (aliases : List (Option (List ℕ))) (cs : List Clause) (operands : List Operand)
-    → meant.join_typed f place aliases cs operands ≡ (begun f place aliases operands >>= (λ join. meant.inside cs join.frame >>= finished join))
+    → rules.join_typed f place aliases cs operands ≡ (begun f place aliases operands >>= (λ join. rules.inside cs join.frame >>= finished join))

@@ -2,7 +2,7 @@
 ghost use Rattle.std.specs.Prelude.{◌≡◌, map, true, Ok, IfOk, IfErr};
 ghost use Rattle.typing_rules.specs.Steps.{Refuses};
 ghost use Rattle.data_set_trees.specs.Components as parts;
-ghost use Rattle.data_set_trees.specs.Joins as meant;
+ghost use Rattle.expression_rules.specs.JoinClauses as meant;
 ghost use Rattle.join_typing.specs.Inside.{EachFits};
 ghost use Rattle.join_typing.specs.Joining as own;
 

@@ -3,6 +3,7 @@ ghost use Rattle.std.specs.Prelude.{◌≡◌, ◌∷◌, ◌+◌, ◌<◌, ◌�
 ghost use Rattle.clause_trees.specs.Clauses.{MOST_COMPONENTS};
 ghost use Rattle.data_set_trees.specs.Components as parts;
 ghost use Rattle.data_set_trees.specs.Joins as meant;
+ghost use Rattle.expression_rules.specs.JoinClauses as rules;
 ghost use Rattle.data_set_trees.specs.Trees as trees;
 ghost use Rattle.data_set_trees.specs.declared.tree.DataSetOperator.TheVariants as operator;
 ghost use Rattle.join_typing.specs.Inside.{FitInside, EachFits};
@@ -88,7 +89,7 @@ pub(crate) fn structure_before(
 ) -> Result<Structure, AllocError>
     requires fits { EachFits (map own.placed clauses.now) frame.now }
     requires differ { own.DifferAtEnd (map own.placed clauses.now) frame.now }
-    ensures { IfOk result (λ structure. structure ≡ meant.structure_before (map own.placed clauses.now) frame.now) }
+    ensures { IfOk result (λ structure. structure ≡ rules.structure_before (map own.placed clauses.now) frame.now) }
 {
     match clauses {
         [] => named_structure(alloc, frame.components.as_slice()),
@@ -135,7 +136,7 @@ pub(crate) fn with_clauses(
 ) -> Result<DataSet, AllocError>
     requires fits { EachFits (map own.placed clauses) frame }
     requires differ { own.DifferAtEnd (map own.placed clauses) frame }
-    ensures { IfOk result (λ after. after ≡ meant.with_clauses (map own.placed clauses) frame set) }
+    ensures { IfOk result (λ after. after ≡ rules.with_clauses (map own.placed clauses) frame set) }
 {
     while let Some(placed) = take_clause(&mut clauses) {
         frame = frame_after(alloc, &placed.clause, frame)?;

@@ -2,8 +2,9 @@
 use Rattle.std.specs.Prelude.{Bool, true, ◌&&◌, List, Option, Some, None}
 use Rattle.std.specs.List.{list_all}
 use Rattle.vtl_syntax.specs.declared.expr.Clause.{Clause, fold-Clause}
-use Rattle.vtl_syntax.specs.declared.expr.Clause.TheOpen.{Clause-F, Expr-F, Item-F, JoinOperand-F, SubstrRange-F}
+use Rattle.vtl_syntax.specs.declared.expr.Clause.TheOpen.{Clause-F, Expr-F, Groups-F, Item-F, JoinOperand-F, SubstrRange-F}
 use Rattle.vtl_syntax.specs.declared.expr.Expr.{Expr, fold-Expr}
+use Rattle.vtl_syntax.specs.declared.expr.Groups.{Groups, fold-Groups}
 use Rattle.vtl_syntax.specs.declared.expr.Item.{Item, fold-Item}
 use Rattle.vtl_syntax.specs.declared.expr.JoinOperand.{JoinOperand, fold-JoinOperand}
 use Rattle.vtl_syntax.specs.declared.expr.SubstrRange.{SubstrRange, fold-SubstrRange}
@@ -43,12 +44,22 @@ range_step (Expr-F.ExistsIn a b rows place) = a && b
 range_step (Expr-F.Sets f a b others place) = a && (b && all_are others)
 range_step (Expr-F.Difference f a b place) = a && b
 range_step (Expr-F.Join f a b others filter calc keep rename place) = (a && (b && all_are others)) && (if_given filter && (if_given calc && (if_given keep && if_given rename)))
+range_step (Expr-F.Aggregate f a groups place) = a && if_given groups
+range_step (Expr-F.Window f a over place) = a
+range_step (Expr-F.Offset f a offset over place) = a
+range_step (Expr-F.Time f a place) = a
+range_step (Expr-F.Timeshift a shift place) = a
+range_step (Expr-F.FillTimeSeries a span place) = a
 range_step _ = true
 
 abbrev pub clause_range_step : Clause-F Bool Bool Bool Bool Bool Bool → Bool
 clause_range_step (Clause-F.Filter condition place) = condition
 clause_range_step (Clause-F.Calc items place) = all_are items
+clause_range_step (Clause-F.Aggr items groups place) = all_are items && if_given groups
 clause_range_step _ = true
+
+abbrev pub groups_range_step : Groups-F Bool Bool Bool Bool Bool Bool → Bool
+groups_range_step g = if_given g.having
 
 abbrev pub item_range_step : Item-F Bool Bool Bool Bool Bool Bool → Bool
 item_range_step i = i.expr
@@ -61,20 +72,24 @@ part_range_step r = r.start && if_given r.length
 
 -- the literals in an expression, and in its clauses, are in range
 abbrev pub literals_in_range : Expr → Bool
-literals_in_range = fold-Expr Bool Bool Bool Bool Bool Bool clause_range_step range_step (λ groups. true) item_range_step operand_range_step part_range_step
+literals_in_range = fold-Expr Bool Bool Bool Bool Bool Bool clause_range_step range_step groups_range_step item_range_step operand_range_step part_range_step
 
 -- those in a clause
 abbrev pub clause_in_range : Clause → Bool
-clause_in_range = fold-Clause Bool Bool Bool Bool Bool Bool clause_range_step range_step (λ groups. true) item_range_step operand_range_step part_range_step
+clause_in_range = fold-Clause Bool Bool Bool Bool Bool Bool clause_range_step range_step groups_range_step item_range_step operand_range_step part_range_step
 
--- those in an item of `calc`
+-- those in a condition on groups
+abbrev pub groups_in_range : Groups → Bool
+groups_in_range = fold-Groups Bool Bool Bool Bool Bool Bool clause_range_step range_step groups_range_step item_range_step operand_range_step part_range_step
+
+-- those in an item of `calc`, or of `aggr`
 abbrev pub item_in_range : Item → Bool
-item_in_range = fold-Item Bool Bool Bool Bool Bool Bool clause_range_step range_step (λ groups. true) item_range_step operand_range_step part_range_step
+item_in_range = fold-Item Bool Bool Bool Bool Bool Bool clause_range_step range_step groups_range_step item_range_step operand_range_step part_range_step
 
 -- those in an operand of a join
 abbrev pub operand_in_range : JoinOperand → Bool
-operand_in_range = fold-JoinOperand Bool Bool Bool Bool Bool Bool clause_range_step range_step (λ groups. true) item_range_step operand_range_step part_range_step
+operand_in_range = fold-JoinOperand Bool Bool Bool Bool Bool Bool clause_range_step range_step groups_range_step item_range_step operand_range_step part_range_step
 
 -- those in `, start, length`
 abbrev pub part_in_range : SubstrRange → Bool
-part_in_range = fold-SubstrRange Bool Bool Bool Bool Bool Bool clause_range_step range_step (λ groups. true) item_range_step operand_range_step part_range_step
+part_in_range = fold-SubstrRange Bool Bool Bool Bool Bool Bool clause_range_step range_step groups_range_step item_range_step operand_range_step part_range_step

@@ -2,11 +2,11 @@
 ghost use Rattle.std.specs.Prelude.{◌≡◌, ◌&&◌, true, option_map};
 ghost use Rattle.std.specs.List.{list_all};
 ghost use Rattle.scalar_trees.specs.WellTyped.{in_range};
-ghost use Rattle.literal_ranges.specs.Ranges.{if_given, literals_in_range, clause_in_range, item_in_range, operand_in_range, part_in_range};
+ghost use Rattle.literal_ranges.specs.Ranges.{if_given, literals_in_range, clause_in_range, groups_in_range, item_in_range, operand_in_range, part_in_range};
 
 use scalar_trees::literal_kind;
 use sqlite_items::Boxed;
-use vtl_syntax::{Clause, Expr, Item, JoinOperand, SubstrRange};
+use vtl_syntax::{Clause, Expr, Groups, Item, JoinOperand, SubstrRange};
 use vtl_values::Value;
 
 fn see_value(value: &Value)
@@ -98,18 +98,22 @@ pub fn see_literals(tree: &Expr)
             see_clauses(filter, calc, keep, rename);
         }
         Expr::Name { .. } => (),
-        Expr::Aggregate { .. } => (),
-        Expr::Window { .. } => (),
+        Expr::Aggregate {
+            operand,
+            groups,
+            ..
+        } => see_with_groups(operand.get(), groups),
+        Expr::Window { operand, .. } => see_literals(operand.get()),
         Expr::CountAll { .. } => (),
-        Expr::Offset { .. } => (),
+        Expr::Offset { operand, .. } => see_literals(operand.get()),
         Expr::Rank { .. } => (),
         Expr::CheckDatapoint { .. } => (),
         Expr::Hierarchy { .. } => (),
         Expr::CheckHierarchy { .. } => (),
         Expr::Check { .. } => (),
-        Expr::Time { .. } => (),
-        Expr::Timeshift { .. } => (),
-        Expr::FillTimeSeries { .. } => (),
+        Expr::Time { operand, .. } => see_literals(operand.get()),
+        Expr::Timeshift { operand, .. } => see_literals(operand.get()),
+        Expr::FillTimeSeries { operand, .. } => see_literals(operand.get()),
         Expr::CallOf { .. } => (),
     }
 }
@@ -208,6 +212,32 @@ fn see_with_range(tree: &Expr, range: &Option<SubstrRange>)
 }
 
 #[cycle(walk)]
+fn see_groups(groups: &Option<Boxed<Groups>>)
+    ensures { if_given (option_map groups_in_range groups.now) ≡ true }
+{
+    match groups {
+        Some(groups) => see_optional(&groups.get().having),
+        None => (),
+    }
+}
+
+#[cycle(walk)]
+fn see_with_groups(tree: &Expr, groups: &Option<Boxed<Groups>>)
+    ensures { (literals_in_range tree.now && if_given (option_map groups_in_range groups.now)) ≡ true }
+{
+    see_literals(tree);
+    see_groups(groups);
+}
+
+#[cycle(walk)]
+fn see_items_with_groups(items: &[Item], groups: &Option<Boxed<Groups>>)
+    ensures { (list_all item_in_range items.now && if_given (option_map groups_in_range groups.now)) ≡ true }
+{
+    see_items(items);
+    see_groups(groups);
+}
+
+#[cycle(walk)]
 fn see_clause(clause: &Clause)
     ensures { clause_in_range clause.now ≡ true }
 {
@@ -219,7 +249,7 @@ fn see_clause(clause: &Clause)
         Clause::Rename { .. } => (),
         Clause::Sub { .. } => (),
         Clause::Unpivot { .. } => (),
-        Clause::Aggr { .. } => (),
+        Clause::Aggr { items, groups, .. } => see_items_with_groups(items.as_slice(), groups),
     }
 }
 

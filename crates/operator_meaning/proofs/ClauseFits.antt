@@ -30,7 +30,7 @@ use Rattle.operator_meaning.proofs.Opened.{IsOpener, IsBoundedSetOf-opened, all-
 abbrev pub left_by : CheckedClause → List Component → List Component
 left_by c operand = map unlisted (after c (frame_of operand)).components
 
-unlisted-opens : (c : Component) → IsOpener c (unlisted c)
+pub unlisted-opens : (c : Component) → IsOpener c (unlisted c)
 unlisted-opens c = by_role (has_role Viral c)
   where
     by_role : (b : Bool) → IsOpener c (if b then c else record c { codes = Any })

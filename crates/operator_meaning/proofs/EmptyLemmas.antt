@@ -19,13 +19,14 @@ use Rattle.data_set_trees.specs.declared.tree.Source.{Source}
 use Rattle.data_set_trees.specs.declared.tree.Source.TheVariants.{Input, Result as ResultOf}
 use Rattle.clause_trees.specs.Frames.{frame_of}
 use Rattle.data_set_trees.specs.declared.tree.DataSetOperator.{DataSetOperator}
-use Rattle.data_set_trees.specs.declared.tree.DataSetOperator.TheVariants.{Clause, Pair, Choice, ExistsIn, Set, Join, InJoin}
+use Rattle.data_set_trees.specs.declared.tree.DataSetOperator.TheVariants.{Clause, Pair, Choice, ExistsIn, Set, Join, InJoin, Aggregate, Window, WindowInJoin, Time, Check, Datapoint, Hierarchy}
 use Rattle.checked_trees.specs.Choices.{branches}
 use Rattle.checked_trees.specs.Operators.{an_operator, Operator, IsTyped, TakesOperands}
 use Rattle.checked_trees.specs.Expressions.{Expression, Expressions, Named, Applied, none, more, expression_of}
 use Rattle.checked_trees.specs.Scripts.{Script, IsChecked, FollowOperands, IsOneOf, names_in, names_in_all, names_of, structure_of_source}
 use Rattle.checked_trees.specs.Typing.{HasStructure, HaveStructures}
 use Rattle.clause_meaning.proofs.Covered.{meaning-empty}
+use Rattle.aggregate_meaning.proofs.Covered as aggregates
 use Rattle.pair_meaning.specs.Typed.{pair_on}
 use Rattle.pair_meaning.proofs.Paired.{left-empty}
 use Rattle.set_meaning.specs.Sets.{set_on}
@@ -57,6 +58,13 @@ parts-empty (ExistsIn rows) operands structure structures result takes = ap (λ 
 parts-empty (Set operation) operands structure structures result takes = set-empty (set_on operation operands structure)
 parts-empty (Join f) operands structure structures result takes = join-empty (join_on f operands structure) (record { structures = structures; structure_is = result; join = takes })
 parts-empty (InJoin clause) operands structure structures result takes = ap (λ (ss : List (List Component)). meaning_of (an_operator (InJoin clause) ss structure) (empties ss)) takes.one ∙ meaning-empty clause (frame_of takes.operand)
+parts-empty (Aggregate a) operands structure structures result takes = ap (λ (ss : List (List Component)). meaning_of (an_operator (Aggregate a) ss structure) (empties ss)) takes.one ∙ aggregates.meaning-empty a takes.operand
+parts-empty (Window w) operands structure structures result takes = refl
+parts-empty (WindowInJoin w) operands structure structures result takes = refl
+parts-empty (Time t) operands structure structures result takes = refl
+parts-empty (Check c) operands structure structures result takes = refl
+parts-empty (Datapoint d) operands structure structures result takes = refl
+parts-empty (Hierarchy h) operands structure structures result takes = refl
 
 -- what a typed operator gives on empty operands is empty
 pub meaning_of-empty : (o : Operator) → IsTyped o → meaning_of o (empties o.operands) ≡ made empty

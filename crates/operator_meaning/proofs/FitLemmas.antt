@@ -21,17 +21,22 @@ use Rattle.clause_trees.specs.declared.clause.CheckedClause.{CheckedClause}
 use Rattle.clause_trees.specs.Frames.{frame_of}
 use Rattle.clause_trees.specs.WellTyped.{is_well_typed}
 use Rattle.data_set_trees.specs.declared.tree.DataSetOperator.{DataSetOperator}
-use Rattle.data_set_trees.specs.declared.tree.DataSetOperator.TheVariants.{Clause, Pair, Choice, ExistsIn, Set, Join, InJoin}
+use Rattle.data_set_trees.specs.declared.tree.DataSetOperator.TheVariants.{Clause, Pair, Choice, ExistsIn, Set, Join, InJoin, Aggregate, Window, WindowInJoin, Time, Check, Datapoint, Hierarchy}
 use Rattle.checked_trees.specs.Operators.{an_operator, Operator, IsTyped, TakesOperands}
 use Rattle.checked_trees.specs.Expressions.{Expression, Expressions, Named, Applied, none, more, expression_of}
 use Rattle.checked_trees.specs.Scripts.{Script, IsChecked, names_in, structure_of_source}
 use Rattle.checked_trees.specs.Typing.{HasStructure, HaveStructures}
-use Rattle.operator_meaning.specs.Operators.{SetOutcome, clause_on, meaning_of, AreOperands}
+use Rattle.aggregate_trees.specs.declared.aggregate.CheckedAggregate.{CheckedAggregate}
+use Rattle.aggregate_trees.specs.Results.{grouped}
+use Rattle.aggregate_trees.specs.WellTyped as aggregates
+use Rattle.aggregate_meaning.proofs.Fits.{aggregate-fits}
+use Rattle.data_set_trees.specs.Components.{unlisted}
+use Rattle.operator_meaning.specs.Operators.{SetOutcome, clause_on, aggregate_on, meaning_of, AreOperands}
 use Rattle.operator_meaning.specs.Results.{Wrong, Evaluated, sets_of, points_of, placed, worked, gathered, result_of, results_of}
 use Rattle.operator_meaning.specs.Scripts.{State, Has, Fails, Idle, state_of, set_in, set_named, worked_out, state_at, with_at, states_after, states}
-use Rattle.operator_meaning.proofs.ClauseFits.{left_by, clause-fits}
+use Rattle.operator_meaning.proofs.ClauseFits.{left_by, clause-fits, unlisted-opens}
 use Rattle.operator_meaning.proofs.ManyFits.{pair-fit, exists-fit, choice-fit, set-fit, join-fit}
-use Rattle.operator_meaning.proofs.Opened.{IsBoundedSetOf-renamed}
+use Rattle.operator_meaning.proofs.Opened.{IsBoundedSetOf-opened, IsBoundedSetOf-renamed, all-opened}
 use Rattle.operator_meaning.proofs.ScriptLemmas.{with_at-same, with_at-other}
 
 pub empty-fits : (cs : List Component) → IsBoundedSetOf cs empty
@@ -52,6 +57,24 @@ one-fits clause operand operands xs y structures one typed h e =
     of_one (a ∷ []) h e = clause-fits clause operand a y first typed h.0.fits e
     of_one (a ∷ b ∷ xs) h e = absurd h.1
 
+-- aggregates on one data set
+aggregate-fit : (aggregate : CheckedAggregate) (operand : List Component) (operands : List (List Component)) (xs : List DataSet) (y : DataSet) → All IsStructure operands → operands ≡ operand ∷ [] → aggregates.is_well_typed operand aggregate ≡ true → AreOperands operands xs → aggregate_on aggregate operands xs ≡ Made y → IsBoundedSetOf (map unlisted (grouped aggregate operand)) y
+aggregate-fit aggregate operand operands xs y structures one typed h e =
+    of_one xs (subst (λ (ss : List (List Component)). AreOperands ss xs) one h) (subst (λ (ss : List (List Component)). aggregate_on aggregate ss xs ≡ Made y) one e)
+  where
+    first : IsStructure operand
+    first = All-head IsStructure operand [] (subst (λ (ss : List (List Component)). All IsStructure ss) one structures)
+
+    of_one : (xs : List DataSet) → AreOperands (operand ∷ []) xs → aggregate_on aggregate (operand ∷ []) xs ≡ Made y → IsBoundedSetOf (map unlisted (grouped aggregate operand)) y
+    of_one [] h e = absurd h
+    of_one (a ∷ []) h e =
+        IsBoundedSetOf-opened (grouped aggregate operand) (map unlisted (grouped aggregate operand)) y (all-opened unlisted unlisted-opens (grouped aggregate operand)) (aggregate-fits aggregate operand a y first typed h.0 e)
+    of_one (a ∷ b ∷ xs) h e = absurd h.1
+
+-- nothing is of each structure
+nothing-fits : (cs : List Component) (y : DataSet) → ◌≡◌ {A = SetOutcome} (Made empty) (Made y) → IsBoundedSetOf cs y
+nothing-fits cs y e = let same : empty ≡ y = cc in subst (IsBoundedSetOf cs) same (empty-fits cs)
+
 parts-fit : (operator : DataSetOperator) (operands : List (List Component)) (structure : List Component) (xs : List DataSet) (y : DataSet)
     → All IsStructure operands → IsStructure structure → TakesOperands (an_operator operator operands structure) → AreOperands operands xs → meaning_of (an_operator operator operands structure) xs ≡ Made y → IsBoundedSetOf structure y
 parts-fit (Clause clause) operands structure xs y structures result takes h e =
@@ -63,6 +86,14 @@ parts-fit (Set operation) operands structure xs y structures result takes h e = 
 parts-fit (Join f) operands structure xs y structures result takes h e = join-fit operands structure xs y structures result h f takes e
 parts-fit (InJoin clause) operands structure xs y structures result takes h e =
     IsBoundedSetOf-renamed structure (left_by clause takes.operand) y takes.after_it (one-fits clause takes.operand operands xs y structures takes.one takes.typed h e)
+parts-fit (Aggregate aggregate) operands structure xs y structures result takes h e =
+    subst (λ (cs : List Component). IsBoundedSetOf cs y) (sym takes.after_it) (aggregate-fit aggregate takes.operand operands xs y structures takes.one takes.well h e)
+parts-fit (Window w) operands structure xs y structures result takes h e = nothing-fits structure y e
+parts-fit (WindowInJoin w) operands structure xs y structures result takes h e = nothing-fits structure y e
+parts-fit (Time t) operands structure xs y structures result takes h e = nothing-fits structure y e
+parts-fit (Check c) operands structure xs y structures result takes h e = nothing-fits structure y e
+parts-fit (Datapoint d) operands structure xs y structures result takes h e = nothing-fits structure y e
+parts-fit (Hierarchy hierarchy) operands structure xs y structures result takes h e = nothing-fits structure y e
 
 -- what a typed operator gives on operands of its structures is of its structure
 pub meaning_of-fits : (o : Operator) (xs : List DataSet) (y : DataSet) → IsTyped o → AreOperands o.operands xs → meaning_of o xs ≡ Made y → IsBoundedSetOf o.structure y

@@ -12,8 +12,10 @@ use Rattle.structured_sets.specs.Fitting.{IsBoundedSetOf}
 use Rattle.clause_trees.specs.declared.clause.CheckedClause.{CheckedClause}
 use Rattle.clause_trees.specs.declared.clause.CheckedMeasure.{CheckedMeasure}
 use Rattle.clause_trees.specs.Frames.{frame_of}
+use Rattle.aggregate_trees.specs.declared.aggregate.CheckedAggregate.{CheckedAggregate}
+use Rattle.aggregate_meaning.specs.Aggregates.{aggregate_meaning}
 use Rattle.data_set_trees.specs.declared.tree.DataSetOperator.{DataSetOperator}
-use Rattle.data_set_trees.specs.declared.tree.DataSetOperator.TheVariants.{Clause, Pair, Choice, ExistsIn, Set, Join, InJoin}
+use Rattle.data_set_trees.specs.declared.tree.DataSetOperator.TheVariants.{Clause, Pair, Choice, ExistsIn, Set, Join, InJoin, Aggregate, Window, WindowInJoin, Time, Check, Datapoint, Hierarchy}
 use Rattle.checked_trees.specs.Operators.{Operator}
 use Rattle.clause_meaning.specs.Clauses.{clause_meaning}
 use Rattle.pair_meaning.specs.Pairs.{pair_meaning}
@@ -42,7 +44,17 @@ abbrev pub clause_on : CheckedClause → List (List Component) → List DataSet 
 clause_on clause (operand ∷ operands) (a ∷ xs) = clause_meaning clause (frame_of operand) a
 clause_on clause operands xs = made empty
 
--- what the operator gives
+-- nothing, in place of what isn't written down yet
+abbrev pub unwritten : List DataSet → SetOutcome
+unwritten xs = made empty
+
+-- what aggregates make of their one operand, which has these components
+abbrev pub aggregate_on : CheckedAggregate → List (List Component) → List DataSet → SetOutcome
+aggregate_on aggregate (operand ∷ operands) (a ∷ xs) = aggregate_meaning aggregate operand a
+aggregate_on aggregate operands xs = made empty
+
+-- What the operator gives. The meaning of analytic operators, of operators on time series, of `check` and of uses of
+-- rulesets isn't written down here yet: no script that runs has one (`built_scripts`).
 abbrev pub meaning_of : Operator → List DataSet → SetOutcome
 meaning_of o = by_operator o.operator
   where
@@ -54,6 +66,13 @@ meaning_of o = by_operator o.operator
     by_operator (Set operation) = set_meaning (set_on operation o.operands o.structure)
     by_operator (Join f) = join_meaning (join_on f o.operands o.structure)
     by_operator (InJoin clause) = clause_on clause o.operands
+    by_operator (Aggregate a) = aggregate_on a o.operands
+    by_operator (Window w) = unwritten
+    by_operator (WindowInJoin w) = unwritten
+    by_operator (Time t) = unwritten
+    by_operator (Check c) = unwritten
+    by_operator (Datapoint d) = unwritten
+    by_operator (Hierarchy h) = unwritten
 
 -- operands of these structures
 abbrev pub AreOperands : List (List Component) → List DataSet → Type 0

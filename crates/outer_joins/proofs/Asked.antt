@@ -18,24 +18,24 @@ use Rattle.held_index.specs.declared.stop.Stop.{Stop}
 use Rattle.held_index.proofs.Rules.{IsRightAnswer-finished}
 use Rattle.held_index.proofs.WantLemmas.{all_whole-plain, contents-all_whole}
 use Rattle.clause_meaning.proofs.Picked.{AllZip-weaker}
-use Rattle.data_set_trees.specs.declared.tree.DataSetOperator.TheVariants.{Join}
-use Rattle.checked_trees.specs.Operators.{an_operator, Operator}
+use Rattle.checked_trees.specs.Operators.{Operator, IsTyped}
+use Rattle.operator_meaning.specs.Operators.{meaning_of, AreOperands}
 use Rattle.join_meaning.specs.Joins.{JoinOn}
 use Rattle.join_meaning.specs.Typed.{IsTypedJoinOn}
 use Rattle.outer_joins.specs.Noted.{value_at, IsNoted, all_keys_of}
-use Rattle.outer_joins.specs.Rules.{is_outer, join_meaning_of, IsOuterOn}
+use Rattle.outer_joins.specs.Rules.{is_outer, operator_of, wanted_of}
 use Rattle.outer_joins.proofs.Right.{AllZip-length, right-answer}
 
 fit-all : (ss : List (List Component)) (xs : List DataSet) → AllZip IsBoundedSetOf ss xs → AllZip IsSetOf ss xs
 fit-all ss xs h = AllZip-weaker IsBoundedSetOf IsSetOf (λ s x bounded. bounded.fits) ss xs h
 
--- the operator that is this join
-abbrev operator_of : JoinOn → Operator
-operator_of j = an_operator (Join j.function) j.operands j.structure
+-- an operator that is a join is well typed as one
+pub typed-join : (j : JoinOn) → IsTyped (operator_of j) → IsTypedJoinOn j
+typed-join j typed = record { structures = typed.structures; structure_is = typed.result; join = typed.takes }
 
 module _ (j : JoinOn) (typed : IsTypedJoinOn j) (outer : is_outer j.function ≡ true) (held : List Holding) (news : List Changes) (before : ℕ) (n : SetDraft) where
   asked-right : All Differs news → (AllPlain held → IsNoted j held news (all_keys_of j j.operands news) n) → (xs : List DataSet) (x : DataSet)
-      → AreAsked (AllZip IsBoundedSetOf j.operands) (join_meaning_of (operator_of j)) (all_whole (length j.operands)) held news before xs x → IsRight (join_meaning_of (operator_of j) (after_news news xs)) x (finished before n)
+      → AreAsked (AreOperands j.operands) (meaning_of (operator_of j)) (all_whole (length j.operands)) held news before xs x → IsRight (meaning_of (operator_of j) (after_news news xs)) x (finished before n)
   asked-right differ noted xs x asked =
       let ks = all_keys_of j j.operands news in
       let many : length xs ≡ length j.operands = AllZip-length IsBoundedSetOf j.operands xs asked.admitted in
@@ -46,12 +46,15 @@ module _ (j : JoinOn) (typed : IsTypedJoinOn j) (outer : is_outer j.function ≡
       asked.result_is asked.count
 
 -- the draft in which the keys of all changes are noted ends in the right answer
-pub right-for-all : (o : Operator) (j : JoinOn) → IsOuterOn o j → (held : List Holding) (news : List Changes) (before : ℕ) (n : SetDraft) (answer : Result Changes Stop) → IfSome (answer_of answer) (λ a. a ≡ finished before n)
-    → All Differs news → (AllPlain held → IsNoted j held news (all_keys_of j j.operands news) n)
-    → IsRightAnswer (AllZip IsBoundedSetOf o.operands) (join_meaning_of o) (all_whole (length o.operands)) held news before answer
-right-for-all o j on held news before n answer ends differ noted =
-    subst (λ (p : Operator). IsRightAnswer (AllZip IsBoundedSetOf p.operands) (join_meaning_of p) (all_whole (length p.operands)) held news before answer) (sym on.is)
-    (IsRightAnswer-finished (AllZip IsBoundedSetOf j.operands) (join_meaning_of (operator_of j)) (all_whole (length j.operands)) held news before answer n ends (asked-right j on.typed on.outer held news before n differ noted))
+pub right-for-all : (o : Operator) (j : JoinOn) → o ≡ operator_of j → IsTyped (operator_of j) → is_outer j.function ≡ true → (held : List Holding) (news : List Changes) (before : ℕ) (n : SetDraft) (answer : Result Changes Stop) → IfSome (answer_of answer) (λ a. a ≡ finished before n)
+    → All Differs news → (AllPlain held → IsNoted j held news (all_keys_of j j.operands news) n) → IsRightAnswer (AreOperands o.operands) (meaning_of o) (wanted_of o) held news before answer
+right-for-all o j is typed outer held news before n answer ends differ noted =
+    subst (λ (p : Operator). IsRightAnswer (AreOperands p.operands) (meaning_of p) (wanted_of p) held news before answer) (sym is)
+    (IsRightAnswer-finished (AreOperands j.operands) (meaning_of (operator_of j)) (all_whole (length j.operands)) held news before answer n ends (asked-right j (typed-join j typed) outer held news before n differ noted))
+
+-- the join has the operands of the operator
+pub as-many : (o : Operator) (j : JoinOn) → o ≡ operator_of j → length o.operands ≡ length j.operands
+as-many o j is = ap (λ (p : Operator). length p.operands) is
 
 -- ---- steps
 

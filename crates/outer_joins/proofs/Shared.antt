@@ -3,16 +3,15 @@
 use Rattle.std.proofs.Crossing.{crosses}
 use denote.Param.Send.{IsSend, IsSync, sendable}
 use denote.Param.SendFields.{declared_send, declared_sync}
-use Rattle.data_set_trees.proofs.Sendable.{operator_send, operator_sync}
 use Rattle.join_eval.proofs.Shared.{plan_send, plan_sync}
 use Rattle.outer_joins.specs.contracts.rule.OuterJoinRule as Rule
 use Rattle.outer_joins.specs.contracts.rule.OuterJoinRule.TheInside as RuleInside
 
 rule_inside_send : IsSend RuleInside.the_row
-rule_inside_send = declared_send RuleInside.the_type (search (operator_send, plan_send, crosses, sendable) depth 40)
+rule_inside_send = declared_send RuleInside.the_type (search (plan_send, crosses, sendable) depth 40)
 
 rule_inside_sync : IsSync RuleInside.the_row
-rule_inside_sync = declared_sync RuleInside.the_type (search (operator_sync, plan_sync, crosses, sendable) depth 40)
+rule_inside_sync = declared_sync RuleInside.the_type (search (plan_sync, crosses, sendable) depth 40)
 
 pub rule_send : IsSend Rule.the_row
 rule_send = search (rule_inside_send, sendable)

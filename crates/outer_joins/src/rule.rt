@@ -1,13 +1,12 @@
 // The rule of a left or full join.
 ghost use Rattle.std.specs.Prelude.{◌≡◌, true, IfOk};
 ghost use Rattle.data_set_trees.specs.declared.tree.DataSetOperator.TheVariants.{Join};
-ghost use Rattle.vtl_syntax.specs.declared.words.JoinFunction.{JoinFunction as Function};
-ghost use Rattle.checked_trees.specs.Operators.{an_operator};
-ghost use Rattle.outer_joins.specs.Rules.{IsOuterJoin, IsOuterOn};
+ghost use Rattle.checked_trees.specs.Operators.{an_operator, IsTyped};
+ghost use Rattle.outer_joins.specs.Rules.{is_outer, operator_of, IsOuter};
 
 use crate::notes::noted;
 use data_model::steps::Steps;
-use data_set_trees::{DataSetNode, DataSetOperator, SharedOperator};
+use data_set_trees::{DataSetNode, DataSetOperator};
 use held_index::{DeltaRule, Held, Stop, Want, all_whole};
 use join_eval::JoinPlan;
 use point_sets::Delta;
@@ -23,28 +22,28 @@ use vtl_values::Structure;
 /// The rule of a left or full join. It keeps how the points of the operands meet.
 #[derive(Drop)]
 pub struct OuterJoinRule {
-    operator: SharedOperator,
     plan: JoinPlan,
     wants: Items<Want>,
 }
 
 impl Model for OuterJoinRule {
-    ghost use Rattle.checked_trees.specs.Operators.{an_operator, operator_coded, Operator};
-    ghost use Rattle.outer_joins.specs.Rules.{IsRule};
+    ghost use Rattle.checked_trees.specs.Operators.{operator_coded, Operator};
+    ghost use Rattle.outer_joins.specs.Rules.{operator_of, IsRule};
 
     ghost Value = { Operator };
 
     ghost coded = { operator_coded };
 
-    ghost view = { λ r. an_operator r.operator r.plan.operands r.plan.structure };
+    ghost view = { λ r. operator_of r.plan };
 
-    ghost invariant = { λ r. IsRule (an_operator r.operator r.plan.operands r.plan.structure) r.plan r.wants };
+    ghost invariant = { λ r. IsRule r.plan r.wants };
 }
 
-/// The join that an operator is.
+/// The function of a left or full join.
 fn function_of(operator: &DataSetOperator) -> JoinFunction
-    requires { (function : Function) × (operator.now ≡ Join function) }
-    ensures { operator.now ≡ Join result }
+    requires { IsOuter operator.now }
+    ensures join { operator.now ≡ Join result }
+    ensures outer { is_outer result ≡ true }
 {
     match operator {
         DataSetOperator::Join(function) => *function,
@@ -55,21 +54,22 @@ fn function_of(operator: &DataSetOperator) -> JoinFunction
 impl OuterJoinRule {
     /// The rule of a node's operator, which is a left or full join.
     pub fn of(alloc: Global, node: &DataSetNode) -> Result<OuterJoinRule, AllocError>
-        requires { IsOuterJoin (an_operator node.now.operator node.now.operands node.now.structure) }
+        requires typed { IsTyped (an_operator node.now.operator node.now.operands node.now.structure) }
+        requires outer { IsOuter node.now.operator }
         ensures { IfOk result (λ rule. rule ≡ an_operator node.now.operator node.now.operands node.now.structure) }
     {
         let operands = node.operands.as_slice();
         let function = function_of(node.operator.get());
-        Ok(OuterJoinRule {
-            operator: node.operator.copy()?,
-            plan: JoinPlan::of(alloc, function, operands, &node.structure)?,
-            wants: all_whole(alloc, operands.len())?,
-        })
+        let plan = JoinPlan::of(alloc, function, operands, &node.structure)?;
+        let wants = all_whole(alloc, operands.len())?;
+        Ok(OuterJoinRule { plan, wants })
     }
 
-    /// How the points of the operands meet.
-    pub fn plan(&self) -> &JoinPlan
-        ensures { IsOuterOn self.now result.now }
+    /// How the points of the operands meet. The operator is this join, which is a left or full one, and well typed.
+    fn plan(&self) -> &JoinPlan
+        ensures operator { self.now ≡ operator_of result.now }
+        ensures typed { IsTyped (operator_of result.now) }
+        ensures outer { is_outer result.now.function ≡ true }
     {
         &self.plan
     }
@@ -77,19 +77,17 @@ impl OuterJoinRule {
 
 impl DeltaRule for OuterJoinRule {
     ghost use Rattle.std.specs.Prelude.{length};
-    ghost use Rattle.std.specs.List.{AllZip};
-    ghost use Rattle.structured_sets.specs.Fitting.{IsBoundedSetOf};
-    ghost use Rattle.held_index.specs.Wants as wants;
+    ghost use Rattle.operator_meaning.specs.Operators.{meaning_of, AreOperands};
     ghost use Rattle.outer_joins.specs.Reach.{outer_reach, no_reach};
-    ghost use Rattle.outer_joins.specs.Rules.{join_meaning_of};
+    ghost use Rattle.outer_joins.specs.Rules.{wanted_of};
 
     ghost arity = { λ r. length r.operands };
 
-    ghost admits = { λ r. AllZip IsBoundedSetOf r.operands };
+    ghost admits = { λ r. AreOperands r.operands };
 
-    ghost meaning = { join_meaning_of };
+    ghost meaning = { meaning_of };
 
-    ghost wanted = { λ r. wants.all_whole (length r.operands) };
+    ghost wanted = { wanted_of };
 
     ghost structure = { λ r. r.structure };
 

@@ -254,19 +254,30 @@ fn steps_text<R: Threads + Sync>(
     Ok(out)
 }
 
-fn answer<R: Threads + Sync>(rt: &R, alloc: Global, call: &str, words: &[Json]) -> Result<String> {
-    let (mut production, steps) = if call == "structures" {
-        (
-            of_structures(alloc, words.get(1), limits_at(words, 2)?)?,
-            list_at(words, 5)?,
-        )
-    } else {
-        (
-            of_script(alloc, call, limits_at(words, 1)?)?,
-            list_at(words, 4)?,
-        )
-    };
+// What the steps answer of this production.
+fn run<R: Threads + Sync>(
+    rt: &R,
+    alloc: Global,
+    mut production: Production,
+    steps: &[Json],
+) -> Result<String> {
     steps_text(rt, alloc, &mut production, steps)
+}
+
+fn answer<R: Threads + Sync>(rt: &R, alloc: Global, call: &str, words: &[Json]) -> Result<String> {
+    if call == "structures" {
+        let steps = list_at(words, 5)?;
+        let limits = limits_at(words, 2)?;
+        return run(
+            rt,
+            alloc,
+            of_structures(alloc, words.get(1), limits)?,
+            steps,
+        );
+    }
+    let steps = list_at(words, 4)?;
+    let limits = limits_at(words, 1)?;
+    run(rt, alloc, of_script(alloc, call, limits)?, steps)
 }
 
 fn main(rt: HostRuntime) -> Result<()> {

@@ -23,7 +23,7 @@ use Rattle.data_set_trees.specs.declared.tree.Source.TheVariants as source
 use Rattle.data_set_trees.specs.declared.tree.DataSetTree.{fold-roll-DataSetTree}
 use Rattle.data_set_trees.specs.declared.tree.DataSetTree.TheOpen.{DataSetTree-F}
 use Rattle.data_set_trees.specs.declared.tree.DataSetTree.TheVariants as tree
-use Rattle.data_set_trees.specs.Expressions.{Naming, typed}
+use Rattle.expression_rules.specs.Expressions.{Naming, typed}
 use Rattle.data_set_trees.specs.Trees.{SetAnswer}
 use Rattle.checked_trees.specs.declared.script.CheckedStatement.{CheckedStatement}
 use Rattle.checked_trees.specs.Expressions.{Expression, Named, name_step, node_step, expression_of}

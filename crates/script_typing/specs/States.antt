@@ -13,7 +13,7 @@ use Rattle.data_set_trees.specs.declared.operand.DataSet.{DataSet}
 use Rattle.data_set_trees.specs.declared.operand.Operand.{Operand}
 use Rattle.data_set_trees.specs.declared.operand.Operand.TheVariants as operand
 use Rattle.data_set_trees.specs.declared.tree.Source.TheVariants as source
-use Rattle.data_set_trees.specs.Expressions.{Naming, typed}
+use Rattle.expression_rules.specs.Expressions.{Naming, typed}
 use Rattle.statement_typing.specs.Names.{from, input_of}
 use Rattle.script_typing.specs.declared.state.State.{State}
 use Rattle.script_typing.specs.declared.state.State.TheVariants.{Idle, Has, Fails}

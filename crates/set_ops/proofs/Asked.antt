@@ -22,20 +22,25 @@ use Rattle.clause_meaning.proofs.Picked.{AllZip-weaker}
 use Rattle.data_set_trees.specs.declared.tree.DataSetOperator.{DataSetOperator}
 use Rattle.data_set_trees.specs.declared.tree.DataSetOperator.TheVariants.{Set}
 use Rattle.data_set_trees.specs.declared.tree.SetOperation.{SetOperation}
-use Rattle.checked_trees.specs.Operators.{an_operator, Operator}
+use Rattle.checked_trees.specs.Operators.{an_operator, Operator, IsTyped, TakesOperands}
+use Rattle.operator_meaning.specs.Operators.{meaning_of, AreOperands}
 use Rattle.set_meaning.specs.Sets.{set_on}
 use Rattle.set_meaning.specs.Typed.{IsTypedSet}
 use Rattle.set_ops.specs.Noted.{read_value, IsNoted, all_keys_read}
 use Rattle.set_ops.specs.Readings.{readings_of}
-use Rattle.set_ops.specs.Rules.{IsTypedSetOperator, set_meaning_of}
+use Rattle.set_ops.specs.Rules.{wanted_of}
 use Rattle.set_ops.proofs.Right.{right-answer}
 
 fit-all : (ss : List (List Component)) (xs : List DataSet) → AllZip IsBoundedSetOf ss xs → AllZip IsSetOf ss xs
 fit-all ss xs h = AllZip-weaker IsBoundedSetOf IsSetOf (λ s x bounded. bounded.fits) ss xs h
 
+-- the operator of a set operation on operands of these structures
+abbrev operator_on : SetOperation → List (List Component) → List Component → Operator
+operator_on operation operands structure = an_operator (Set operation) operands structure
+
 module _ (operation : SetOperation) (operands : List (List Component)) (structure : List Component) (typed : IsTypedSet (set_on operation operands structure)) (held : List Holding) (news : List Changes) (before : ℕ) (n : SetDraft) where
   asked-right : All Differs news → (AllPlain held → IsNoted operation (readings_of operands structure) held news (all_keys_read (readings_of operands structure) news) n) → (xs : List DataSet) (x : DataSet)
-      → AreAsked (AllZip IsBoundedSetOf operands) (set_meaning_of (an_operator (Set operation) operands structure)) (all_whole (length operands)) held news before xs x → IsRight (set_meaning_of (an_operator (Set operation) operands structure) (after_news news xs)) x (finished before n)
+      → AreAsked (AreOperands operands) (meaning_of (operator_on operation operands structure)) (all_whole (length operands)) held news before xs x → IsRight (meaning_of (operator_on operation operands structure) (after_news news xs)) x (finished before n)
   asked-right differ noted xs x asked =
       let rs = readings_of operands structure in
       let ks = all_keys_read rs news in
@@ -45,18 +50,21 @@ module _ (operation : SetOperation) (operands : List (List Component)) (structur
       (subst (λ (ys : List DataSet). IsDraft {R = key_cmp} (λ key. false) [] (read_value operation rs ys) (read_value operation rs (after_news news ys)) ks n) same (noted plain))
       asked.result_is asked.count
 
-same-operation : (p q : SetOperation) → Set p ≡ Set q → p ≡ q
-same-operation p q e = cc
+-- an operator that is a set operator is well typed as one
+typed-set : (o : Operator) → IsTyped o → (operation : SetOperation) → o.operator ≡ Set operation → IsTypedSet (set_on operation o.operands o.structure)
+typed-set o typed operation is = record {
+  structures = typed.structures;
+  structure_is = typed.result;
+  set = subst (λ (operator : DataSetOperator). TakesOperands (an_operator operator o.operands o.structure)) is typed.takes;
+}
 
 -- the draft in which the keys of all changes are noted ends in the right answer
-pub right-for-all : (o : Operator) → IsTypedSetOperator o → (operation : SetOperation) → o.operator ≡ Set operation → (held : List Holding) (news : List Changes) (before : ℕ) (n : SetDraft) (answer : Result Changes Stop) → IfSome (answer_of answer) (λ a. a ≡ finished before n)
+pub right-for-all : (o : Operator) → IsTyped o → (operation : SetOperation) → o.operator ≡ Set operation → (held : List Holding) (news : List Changes) (before : ℕ) (n : SetDraft) (answer : Result Changes Stop) → IfSome (answer_of answer) (λ a. a ≡ finished before n)
     → All Differs news → (AllPlain held → IsNoted operation (readings_of o.operands o.structure) held news (all_keys_read (readings_of o.operands o.structure) news) n)
-    → IsRightAnswer (AllZip IsBoundedSetOf o.operands) (set_meaning_of o) (all_whole (length o.operands)) held news before answer
+    → IsRightAnswer (AreOperands o.operands) (meaning_of o) (wanted_of o) held news before answer
 right-for-all o typed operation is held news before n answer ends differ noted =
-    let one : typed.set.0 ≡ operation = same-operation typed.set.0 operation (sym typed.set.1 ∙ is) in
-    let own : IsTypedSet (set_on operation o.operands o.structure) = subst (λ (p : SetOperation). IsTypedSet (set_on p o.operands o.structure)) one typed.typed in
-    subst (λ (operator : DataSetOperator). IsRightAnswer (AllZip IsBoundedSetOf o.operands) (set_meaning_of (an_operator operator o.operands o.structure)) (all_whole (length o.operands)) held news before answer) (sym is)
-    (IsRightAnswer-finished (AllZip IsBoundedSetOf o.operands) (set_meaning_of (an_operator (Set operation) o.operands o.structure)) (all_whole (length o.operands)) held news before answer n ends (asked-right operation o.operands o.structure own held news before n differ noted))
+    subst (λ (operator : DataSetOperator). IsRightAnswer (AreOperands o.operands) (meaning_of (an_operator operator o.operands o.structure)) (wanted_of o) held news before answer) (sym is)
+    (IsRightAnswer-finished (AreOperands o.operands) (meaning_of (operator_on operation o.operands o.structure)) (wanted_of o) held news before answer n ends (asked-right operation o.operands o.structure (typed-set o typed operation is) held news before n differ noted))
 
 -- ---- steps
 

@@ -1,6 +1,6 @@
 //! The delta rules of the set operators.
 //!
-//! It stands on the meanings of set operators in `set_meaning`, and on the held operands, the drafts and the trait of
+//! It stands on the meanings of operators in `operator_meaning`, and on the held operands, the drafts and the trait of
 //! rules of `held_index`. All operands are held whole. At each key of the result that a change comes to the rule looks up
 //! what each operand has there and notes what the result had and has. A plan, made once from the structures, puts keys and
 //! points of an operand into the order of the first one; where the order is the same they are shared. `SetRule` is a

@@ -1,9 +1,9 @@
 // The rule of a set operator.
 ghost use Rattle.std.specs.Prelude.{◌≡◌, IfOk};
 ghost use Rattle.data_set_trees.specs.declared.tree.DataSetOperator.TheVariants.{Set};
-ghost use Rattle.checked_trees.specs.Operators.{an_operator};
+ghost use Rattle.checked_trees.specs.Operators.{an_operator, IsTyped};
 ghost use Rattle.set_ops.specs.Readings.{readings_of};
-ghost use Rattle.set_ops.specs.Rules.{IsSet, IsTypedSetOperator};
+ghost use Rattle.set_ops.specs.Rules.{IsSet};
 
 use crate::notes::noted;
 use crate::reading::Reading;
@@ -72,7 +72,8 @@ fn operation_of(operator: &DataSetOperator) -> SetOperation
 impl SetRule {
     /// The rule of a node's operator, which is a set operator.
     pub fn of(alloc: Global, node: &DataSetNode) -> Result<SetRule, AllocError>
-        requires { IsTypedSetOperator (an_operator node.now.operator node.now.operands node.now.structure) }
+        requires typed { IsTyped (an_operator node.now.operator node.now.operands node.now.structure) }
+        requires set { IsSet node.now.operator }
         ensures { IfOk result (λ rule. rule ≡ an_operator node.now.operator node.now.operands node.now.structure) }
     {
         let operands = node.operands.as_slice();
@@ -85,17 +86,17 @@ impl SetRule {
         })
     }
 
-    /// The operation of the operator, which is a set operator.
-    pub fn operation(&self) -> SetOperation
-        ensures { self.now.operator ≡ Set result }
+    /// The operation of the operator, which is a set operator, and well typed.
+    fn operation(&self) -> SetOperation
+        ensures typed { IsTyped self.now }
+        ensures operation { self.now.operator ≡ Set result }
     {
         operation_of(self.operator.get())
     }
 
     /// How the operands are read.
     fn readings(&self) -> &[Reading]
-        ensures typed { IsTypedSetOperator self.now }
-        ensures value { result.now ≡ readings_of self.now.operands self.now.structure }
+        ensures { result.now ≡ readings_of self.now.operands self.now.structure }
     {
         self.readings.as_slice()
     }
@@ -103,19 +104,17 @@ impl SetRule {
 
 impl DeltaRule for SetRule {
     ghost use Rattle.std.specs.Prelude.{length};
-    ghost use Rattle.std.specs.List.{AllZip};
-    ghost use Rattle.structured_sets.specs.Fitting.{IsBoundedSetOf};
-    ghost use Rattle.held_index.specs.Wants.{all_whole};
+    ghost use Rattle.operator_meaning.specs.Operators.{meaning_of, AreOperands};
     ghost use Rattle.set_ops.specs.Reach.{set_reach, no_reach};
-    ghost use Rattle.set_ops.specs.Rules.{set_meaning_of};
+    ghost use Rattle.set_ops.specs.Rules.{wanted_of};
 
     ghost arity = { λ r. length r.operands };
 
-    ghost admits = { λ r. AllZip IsBoundedSetOf r.operands };
+    ghost admits = { λ r. AreOperands r.operands };
 
-    ghost meaning = { set_meaning_of };
+    ghost meaning = { meaning_of };
 
-    ghost wanted = { λ r. all_whole (length r.operands) };
+    ghost wanted = { wanted_of };
 
     ghost structure = { λ r. r.structure };
 

@@ -15,9 +15,9 @@ use Rattle.clause_trees.specs.declared.frame.Frame.{Frame}
 use Rattle.clause_trees.specs.After.{after}
 use Rattle.operator_typing.proofs.Steps.{goes_on, stops_same, stops_there, stops_after}
 use Rattle.data_set_trees.specs.declared.operand.Operand.{Operand}
-use Rattle.data_set_trees.specs.Joins as meant
+use Rattle.expression_rules.specs.JoinClauses as meant
 use Rattle.data_set_trees.specs.Trees.{SetAnswer}
-use Rattle.data_set_trees.specs.OnClauses.{clause_checked}
+use Rattle.expression_rules.specs.OnClauses.{clause_checked}
 use Rattle.data_set_parts.proofs.Follows.{assoc, gave}
 use Rattle.join_typing.specs.declared.joining.Placed.{Placed}
 use Rattle.join_typing.specs.declared.joining.Joining.{Joining}

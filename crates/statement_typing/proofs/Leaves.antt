@@ -1,35 +1,27 @@
 -- What a clause leaves of a data set's structure is a structure.
-use Rattle.std.proofs.Common.{◌≡◌, List, [], ◌∷◌, map, Result, Ok, Err, sym, ap, subst, ◌∙◌}
-use Rattle.std.proofs.lemmas.List.Elements.{All-nil, All-cons}
-use Rattle.std.specs.List.{All}
+use Rattle.std.proofs.Common.{◌≡◌, List, [], ◌∷◌, map, Ok, sym, ap, subst, ◌∙◌}
 use Rattle.vtl_values.specs.declared.kind.Kind.TheVariants.{Truth}
-use Rattle.vtl_values.specs.declared.place.Place.{Place}
 use Rattle.vtl_values.specs.declared.structure.Component.{Component}
 use Rattle.vtl_values.specs.Structures.{IsStructure}
 use Rattle.vtl_syntax.specs.declared.expr.Clause.{Clause, out-Clause}
 use Rattle.vtl_syntax.specs.declared.expr.Clause.TheOpen.{Clause-F}
-use Rattle.vtl_syntax.specs.declared.expr.Comp.{Comp}
 use Rattle.vtl_syntax.specs.declared.expr.Expr.{Expr}
 use Rattle.vtl_syntax.specs.declared.expr.Groups.{Groups}
-use Rattle.vtl_syntax.specs.declared.expr.Item.{Item, out-Item}
+use Rattle.vtl_syntax.specs.declared.expr.Item.{Item}
 use Rattle.vtl_syntax.specs.declared.expr.JoinOperand.{JoinOperand}
-use Rattle.vtl_syntax.specs.declared.expr.SubItem.{SubItem}
 use Rattle.vtl_syntax.specs.declared.expr.SubstrRange.{SubstrRange}
 use Rattle.typing_rules.specs.declared.scope.Basis.TheVariants.{Point}
 use Rattle.typing_rules.specs.declared.stop.Fault.TheVariants.{UnknownComponent, WrongType, WrongRole, BadConstant}
-use Rattle.typing_rules.specs.declared.stop.Refusal.{Refusal}
 use Rattle.typing_rules.specs.Scalars.{typed, wanted}
-use Rattle.typing_rules.specs.Steps.{◌>>=◌}
 use Rattle.clause_trees.specs.declared.clause.CheckedClause.{CheckedClause}
 use Rattle.clause_trees.specs.declared.clause.CheckedClause.TheVariants as clause
-use Rattle.clause_trees.specs.declared.clause.CheckedItem.{CheckedItem}
 use Rattle.clause_trees.specs.declared.frame.Frame.{Frame}
 use Rattle.clause_trees.specs.Frames.{frame_of, scope_of_frame}
 use Rattle.clause_trees.specs.After.{after, is_kept, is_left}
-use Rattle.clause_trees.specs.Clauses.{IsItemOf, filter_typed, item_typed, calc_typed, keep_typed, drop_typed, sub_typed, demands, are_known, may_keep, may_drop, numbers_named, are_known_items, subs_checked, are_comparable, are_identifiers, are_present}
+use Rattle.clause_trees.specs.Clauses.{filter_typed, calc_typed, are_known, may_keep, may_drop, numbers_named, are_known_items, subs_checked, are_comparable, are_identifiers, are_present}
 use Rattle.clause_trees.proofs.Made.{met, calc_gives, rename_gives, unpivot_gives}
 use Rattle.clause_trees.proofs.Parts.{leaves_structures}
-use Rattle.data_set_trees.specs.OnClauses.{item_checked, items_checked, clause_step, clause_checked}
+use Rattle.expression_rules.specs.OnClauses.{items_checked, clause_step, clause_checked}
 use Rattle.data_set_parts.specs.Results.{structure_after}
 use Rattle.data_set_parts.proofs.Fits.{unlisted_is}
 use Rattle.data_set_parts.proofs.Follows.{gave}

@@ -10,7 +10,9 @@ use Rattle.vtl_syntax.specs.declared.words.JoinFunction.{JoinFunction}
 use Rattle.vtl_syntax.specs.declared.words.SetFunction.{SetFunction}
 use Rattle.typing_rules.specs.declared.stop.Fault.TheVariants.{WrongStructure}
 use Rattle.typing_rules.specs.Steps.{refused}
-use Rattle.data_set_trees.specs.Joins.{alias_of, join_typed}
+use Rattle.data_set_trees.specs.Joins.{alias_of}
+use Rattle.expression_rules.specs.OnSets.{on_aggregate}
+use Rattle.expression_rules.specs.JoinClauses.{join_typed}
 use Rattle.data_set_trees.specs.Sets.{sets_typed}
 use Rattle.vtl_values.specs.declared.place.Place.{Place}
 use Rattle.vtl_syntax.specs.declared.expr.Clause.TheOpen.{Expr-F}
@@ -22,11 +24,11 @@ use Rattle.vtl_syntax.specs.declared.expr.JoinOperand.{JoinOperand, out-JoinOper
 use Rattle.vtl_syntax.specs.declared.expr.SubstrRange.{SubstrRange, out-SubstrRange, roll-out-SubstrRange, map-SubstrRange, para-SubstrRange, para-roll-SubstrRange}
 use Rattle.typing_rules.specs.declared.stop.TypeStop.{TypeStop}
 use Rattle.data_set_trees.specs.declared.operand.Operand.{Operand}
-use Rattle.data_set_trees.specs.Expressions.{Naming, Typing, RangeTyping, Level, typed_step, on_operands, operation_of, range_typings, typings, clauses_of, operand_step, range_step, typing, typed}
+use Rattle.expression_rules.specs.Expressions.{Naming, Typing, RangeTyping, Level, typed_step, on_operands, operation_of, range_typings, typings, clauses_of, operand_step, range_step, typing, typed}
 use Rattle.data_set_trees.specs.declared.form.Form.TheVariants as form
 use Rattle.data_set_trees.specs.Trees.{SetAnswer}
 use Rattle.statement_typing.specs.Joins.{clauses_in, typing_of, join_on}
-use Rattle.statement_typing.specs.Parts.{Answers, of_optional, of_range, of_optional_range, after_all}
+use Rattle.statement_typing.specs.Parts.{Answers, of_optional, of_range, of_optional_range, after_one, after_all}
 
 abbrev pub operand_typing : JoinOperand → Typing
 operand_typing = para-JoinOperand ⊤ Typing ⊤ ⊤ Typing RangeTyping (λ clause. tt) typed_step (λ groups. tt) (λ item. tt) operand_step range_step
@@ -139,8 +141,14 @@ module _ (naming : Naming) where
       (λ i. after_all naming (operands_are (a ∷ b ∷ cs) i) (join_typed f p (aliases_are (a ∷ b ∷ cs) i) (clauses_are u v w x i)))
       ∙ ap (λ (l : Level). typed_step l naming) (sym (maps-Join Clause Expr Groups Item JoinOperand SubstrRange (Clause × ⊤) (Expr × Typing) (Groups × ⊤) (Item × ⊤) (JoinOperand × Typing) (SubstrRange × RangeTyping) clause_part part groups_part item_part operand_part range_part f a b cs u v w x p))
 
-  pub aggregate_level : (f : AggregateFunction) (a : Expr) (g : Option Groups) (p : Place) → refused WrongStructure p ≡ typed_step (level_of (Expr-F.Aggregate f a g p)) naming
-  aggregate_level f a g p = ap (λ (l : Level). typed_step l naming) (sym (maps-Aggregate Clause Expr Groups Item JoinOperand SubstrRange (Clause × ⊤) (Expr × Typing) (Groups × ⊤) (Item × ⊤) (JoinOperand × Typing) (SubstrRange × RangeTyping) clause_part part groups_part item_part operand_part range_part f a g p))
+  groups_are : (g : Option Groups) → g ≡ option_map (λ (h : Groups × ⊤). h.0) (option_map groups_part g)
+  groups_are None = refl
+  groups_are (Some g) = refl
+
+  pub aggregate_level : (f : AggregateFunction) (a : Expr) (g : Option Groups) (p : Place) → after_one naming a (on_aggregate f g p) ≡ typed_step (level_of (Expr-F.Aggregate f a g p)) naming
+  aggregate_level f a g p =
+      ap (λ (h : Option Groups). after_one naming a (on_aggregate f h p)) (groups_are g)
+      ∙ ap (λ (l : Level). typed_step l naming) (sym (maps-Aggregate Clause Expr Groups Item JoinOperand SubstrRange (Clause × ⊤) (Expr × Typing) (Groups × ⊤) (Item × ⊤) (JoinOperand × Typing) (SubstrRange × RangeTyping) clause_part part groups_part item_part operand_part range_part f a g p))
 
   pub check_level : (a : Expr) (code : Option (List ℕ)) (level : Option ℤ) (e : Option Expr) (output : Option CheckOutput) (p : Place) → refused WrongStructure p ≡ typed_step (level_of (Expr-F.Check a code level e output p)) naming
   check_level a code level e output p = ap (λ (l : Level). typed_step l naming) (sym (maps-Check Clause Expr Groups Item JoinOperand SubstrRange (Clause × ⊤) (Expr × Typing) (Groups × ⊤) (Item × ⊤) (JoinOperand × Typing) (SubstrRange × RangeTyping) clause_part part groups_part item_part operand_part range_part a code level e output p))

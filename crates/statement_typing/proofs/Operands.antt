@@ -5,7 +5,7 @@ use Rattle.typing_rules.specs.Steps.{◌>>=◌}
 use Rattle.operator_typing.proofs.Steps.{goes_on}
 use Rattle.data_set_trees.specs.declared.operand.Operand.{Operand}
 use Rattle.data_set_trees.specs.Trees.{SetAnswer}
-use Rattle.data_set_trees.specs.Expressions.{Naming, Typing, all_typed}
+use Rattle.expression_rules.specs.Expressions.{Naming, Typing, all_typed}
 
 abbrev All : Type 0
 All = Result (List Operand) Refusal

@@ -1,10 +1,10 @@
 -- What a step answers whose parts answered.
-use Rattle.std.proofs.Common.{◌≡◌, Result, Ok, Err, IfOk, IfErr, IsErrAnd, sym, subst, ap}
+use Rattle.std.proofs.Common.{◌≡◌, Result, Ok, Err, IfOk, IfErr, IsErrAnd, sym, subst}
 use Rattle.typing_rules.specs.declared.stop.Refusal.{Refusal}
 use Rattle.typing_rules.specs.declared.stop.TypeStop.{TypeStop}
 use Rattle.typing_rules.specs.declared.stop.TypeStop.TheVariants.{Memory}
 use Rattle.typing_rules.specs.Steps.{◌>>=◌, Refuses}
-use Rattle.operator_typing.proofs.Steps.{goes_on, stops_there, stops_after, passed_on}
+use Rattle.operator_typing.proofs.Steps.{goes_on, stops_there}
 use Rattle.statement_typing.specs.Parts.{Answers}
 
 -- where the meaning is the same

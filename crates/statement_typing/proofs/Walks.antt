@@ -5,8 +5,8 @@ use Rattle.vtl_syntax.specs.declared.expr.Item.{Item}
 use Rattle.vtl_syntax.specs.declared.expr.JoinOperand.{JoinOperand}
 use Rattle.typing_rules.specs.Steps.{◌>>=◌}
 use Rattle.clause_trees.specs.declared.frame.Frame.{Frame}
-use Rattle.data_set_trees.specs.Expressions.{Naming, typing, all_typed, typed}
-use Rattle.data_set_trees.specs.OnClauses.{item_checked, items_checked}
+use Rattle.expression_rules.specs.Expressions.{Naming, typing, all_typed, typed}
+use Rattle.expression_rules.specs.OnClauses.{item_checked, items_checked}
 use Rattle.data_set_parts.specs.Walks.{each}
 use Rattle.statement_typing.specs.Joins.{typing_of}
 

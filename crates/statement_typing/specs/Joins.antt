@@ -1,5 +1,5 @@
 -- Joins, from the operands and the clauses that stand in them.
-use Rattle.std.specs.Prelude.{ℕ, ◌++◌, List, [], ◌∷◌, map, Option, Some, None, Result, Ok}
+use Rattle.std.specs.Prelude.{◌++◌, List, [], ◌∷◌, map, Option, Some, None, Result, Ok}
 use Rattle.std.specs.Option.{option_to_list}
 use Rattle.vtl_values.specs.declared.place.Place.{Place}
 use Rattle.vtl_syntax.specs.declared.words.JoinFunction.{JoinFunction}
@@ -10,11 +10,11 @@ use Rattle.typing_rules.specs.Scalars.{place_of}
 use Rattle.typing_rules.specs.Steps.{◌>>=◌}
 use Rattle.clause_trees.specs.declared.clause.CheckedClause.{CheckedClause}
 use Rattle.clause_trees.specs.After.{after}
-use Rattle.data_set_trees.specs.Expressions.{Naming, Typing, typing}
-use Rattle.data_set_trees.specs.Joins.{alias_of, join_typed}
-use Rattle.data_set_trees.specs.OnClauses.{clause_checked}
+use Rattle.expression_rules.specs.Expressions.{Naming, Typing, typing}
+use Rattle.data_set_trees.specs.Joins.{alias_of}
+use Rattle.expression_rules.specs.JoinClauses.{join_typed}
+use Rattle.expression_rules.specs.OnClauses.{clause_checked}
 use Rattle.data_set_trees.specs.Trees.{SetAnswer}
-use Rattle.join_typing.specs.declared.joining.Placed.{Placed}
 use Rattle.statement_typing.specs.Parts.{after_all}
 use Rattle.statement_typing.specs.declared.joins.Inside.{Inside}
 

@@ -8,7 +8,7 @@ use Rattle.data_set_trees.specs.declared.operand.DataSet.{DataSet}
 use Rattle.data_set_trees.specs.declared.tree.DataSetTree.TheVariants as tree
 use Rattle.data_set_trees.specs.declared.tree.Source.{Source}
 use Rattle.data_set_trees.specs.declared.tree.Source.TheVariants as source
-use Rattle.data_set_trees.specs.Expressions.{Naming}
+use Rattle.expression_rules.specs.Expressions.{Naming}
 use Rattle.statement_typing.specs.declared.names.StatementResult.{StatementResult}
 
 -- the inputs by name, and the results so far by theirs

@@ -9,7 +9,7 @@ use Rattle.typing_rules.specs.declared.stop.TypeStop.{TypeStop}
 use Rattle.typing_rules.specs.Steps.{◌>>=◌, Refuses}
 use Rattle.data_set_trees.specs.declared.operand.Operand.{Operand}
 use Rattle.data_set_trees.specs.Trees.{SetAnswer}
-use Rattle.data_set_trees.specs.Expressions.{Naming, Typing, typing, all_typed, typed}
+use Rattle.expression_rules.specs.Expressions.{Naming, Typing, typing, all_typed, typed}
 use Rattle.statement_typing.specs.Names.{Known, naming_of}
 
 -- what is meant, or the first fault, or want of memory

@@ -3,7 +3,7 @@ ghost use Rattle.std.specs.Prelude.{◌<◌, ◌∷◌, [], map};
 ghost use denote.Param.Weighed.{most};
 ghost use Rattle.vtl_syntax.specs.declared.expr.Expr.{size-Expr};
 ghost use Rattle.vtl_syntax.specs.declared.expr.SubstrRange.{size-SubstrRange};
-ghost use Rattle.data_set_trees.specs.Expressions as meant;
+ghost use Rattle.expression_rules.specs.Expressions as meant;
 ghost use Rattle.statement_typing.specs.Names.{naming_of};
 ghost use Rattle.statement_typing.specs.Parts.{Answers, TypesParts, if_some, of_optional, of_range, of_optional_range};
 

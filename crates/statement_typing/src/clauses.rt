@@ -3,10 +3,11 @@ ghost use Rattle.std.specs.Prelude.{◌≡◌, Ok, IfOk, IfErr};
 ghost use Rattle.vtl_syntax.specs.declared.expr.Clause.TheVariants as clause;
 ghost use Rattle.typing_rules.specs.Scalars.{place_of};
 ghost use Rattle.data_set_trees.specs.declared.operand.Operand.TheVariants as operands;
-ghost use Rattle.data_set_trees.specs.OnClauses as meant;
+ghost use Rattle.expression_rules.specs.OnClauses as meant;
 ghost use Rattle.statement_typing.specs.Parts.{Answers};
 
 use crate::items::{calc_checked, filter_checked};
+use crate::on_sets::on_aggr;
 use clause_trees::{CheckedClause, Frame};
 use clause_typing::{drop_typed, frame_of, keep_typed, rename_typed, sub_typed, unpivot_typed};
 use data_set_parts::clauses::with_clause;
@@ -33,7 +34,7 @@ pub(crate) fn clause_place(clause: &Clause) -> Place
     }
 }
 
-/// A clause on a frame. `aggr` isn't built yet.
+/// A clause on a frame, on which `aggr` has no place.
 pub(crate) fn clause_checked(
     alloc: Global,
     clause: &Clause,
@@ -63,14 +64,24 @@ pub(crate) fn clause_checked(
     }
 }
 
-/// A clause on a data set.
+/// A clause that works on points, on a data set.
 fn on_data_set(alloc: Global, clause: &Clause, set: Boxed<DataSet>) -> Result<Operand, TypeStop>
-    ensures { Answers (meant.on_clause clause.now (operands.DataSet set)) result }
+    ensures { Answers (meant.on_points clause.now (operands.DataSet set)) result }
 {
     let frame = frame_of(alloc, set.get().structure.components())?;
     let checked = clause_checked(alloc, clause, &frame)?;
     let set = with_clause(alloc, checked, clause_place(clause), set.into_inner())?;
     Ok(Operand::DataSet(set))
+}
+
+/// A clause that works on points.
+fn on_points(alloc: Global, clause: &Clause, operand: Operand) -> Result<Operand, TypeStop>
+    ensures { Answers (meant.on_points clause.now operand) result }
+{
+    match operand {
+        Operand::Scalar(_) => Err(TypeStop::at(Fault::WrongStructure, clause_place(clause))),
+        Operand::DataSet(set) => on_data_set(alloc, clause, Boxed::new(alloc, set)?),
+    }
 }
 
 /// A clause on an operand, which has to be a data set. `WrongStructure` at the clause's word where it is a scalar; else
@@ -82,8 +93,18 @@ pub(crate) fn on_clause(
 ) -> Result<Operand, TypeStop>
     ensures { Answers (meant.on_clause clause.now operand) result }
 {
-    match operand {
-        Operand::Scalar(_) => Err(TypeStop::at(Fault::WrongStructure, clause_place(clause))),
-        Operand::DataSet(set) => on_data_set(alloc, clause, Boxed::new(alloc, set)?),
+    match clause {
+        Clause::Aggr {
+            items,
+            groups,
+            place,
+        } => on_aggr(alloc, items.as_slice(), groups, *place, operand),
+        Clause::Filter { .. }
+        | Clause::Calc { .. }
+        | Clause::Keep { .. }
+        | Clause::Drop { .. }
+        | Clause::Rename { .. }
+        | Clause::Sub { .. }
+        | Clause::Unpivot { .. } => on_points(alloc, clause, operand),
     }
 }

@@ -5,8 +5,8 @@ ghost use Rattle.vtl_syntax.specs.declared.expr.Expr.{size-Expr};
 ghost use Rattle.data_set_trees.specs.Members.{member_typed};
 ghost use Rattle.data_set_trees.specs.Exists.{exists_typed};
 ghost use Rattle.data_set_trees.specs.Sets.{sets_typed};
-ghost use Rattle.data_set_trees.specs.OnClauses as on;
-ghost use Rattle.data_set_trees.specs.Expressions as meant;
+ghost use Rattle.expression_rules.specs.OnClauses as on;
+ghost use Rattle.expression_rules.specs.Expressions as meant;
 ghost use Rattle.statement_typing.specs.Names.{naming_of};
 ghost use Rattle.statement_typing.specs.Parts.{Answers, TypesParts, after_one, after_all};
 

@@ -1,7 +1,7 @@
 // Expressions outside of clauses.
 ghost use Rattle.std.specs.Prelude.{◌≡◌, Ok, IfOk, IfErr};
 ghost use Rattle.typing_rules.specs.Steps.{Refuses};
-ghost use Rattle.data_set_trees.specs.Expressions.{typed};
+ghost use Rattle.expression_rules.specs.Expressions.{typed};
 ghost use Rattle.statement_typing.specs.Names.{naming_of};
 ghost use Rattle.statement_typing.specs.Parts.{Answers};
 

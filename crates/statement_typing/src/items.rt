@@ -2,7 +2,7 @@
 ghost use Rattle.std.specs.Prelude.{◌≡◌, Ok, IfOk, IfErr};
 ghost use Rattle.vtl_syntax.specs.declared.expr.Clause.TheOpen.{Clause-F};
 ghost use Rattle.clause_trees.specs.Frames as frames;
-ghost use Rattle.data_set_trees.specs.OnClauses as meant;
+ghost use Rattle.expression_rules.specs.OnClauses as meant;
 ghost use Rattle.statement_typing.specs.Parts.{Answers};
 
 use clause_trees::{CheckedClause, CheckedItem, Frame};

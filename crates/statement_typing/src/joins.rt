@@ -3,8 +3,9 @@ ghost use Rattle.std.specs.Prelude.{◌≡◌, ◌<◌, ◌∷◌, [], map, IfOk
 ghost use denote.Param.Weighed.{most};
 ghost use Rattle.vtl_syntax.specs.declared.expr.Expr.{size-Expr};
 ghost use Rattle.vtl_syntax.specs.declared.expr.JoinOperand.{size-JoinOperand};
-ghost use Rattle.data_set_trees.specs.Expressions as meant;
+ghost use Rattle.expression_rules.specs.Expressions as meant;
 ghost use Rattle.data_set_trees.specs.Joins as joins;
+ghost use Rattle.expression_rules.specs.JoinClauses as rules;
 ghost use Rattle.statement_typing.specs.Joins as own;
 ghost use Rattle.statement_typing.specs.Names.{naming_of};
 ghost use Rattle.statement_typing.specs.Parts.{Answers, TypesParts};
@@ -89,7 +90,7 @@ fn joined(
     operands: Items<Operand>,
     clauses: Clauses<'_>,
 ) -> Result<Operand, TypeStop>
-    ensures { Answers (joins.join_typed function place aliases.now (own.clauses_in clauses.entry.filter.now clauses.entry.calc.now clauses.entry.keep.now clauses.entry.rename.now) operands) result }
+    ensures { Answers (rules.join_typed function place aliases.now (own.clauses_in clauses.entry.filter.now clauses.entry.calc.now clauses.entry.keep.now clauses.entry.rename.now) operands) result }
 {
     let join = begin(alloc, function, place, aliases, operands)?;
     let frame = copy_frame(alloc, &join.frame)?;

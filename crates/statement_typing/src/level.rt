@@ -5,7 +5,7 @@ ghost use Rattle.typing_rules.specs.Scalars.{literal_typed};
 ghost use Rattle.typing_rules.specs.Steps.{refused};
 ghost use Rattle.data_set_trees.specs.declared.operand.Operand.{Operand};
 ghost use Rattle.data_set_trees.specs.declared.operand.Operand.TheVariants as operands;
-ghost use Rattle.data_set_trees.specs.Expressions as meant;
+ghost use Rattle.expression_rules.specs.Expressions as meant;
 ghost use Rattle.statement_typing.specs.Names.{naming_of};
 ghost use Rattle.statement_typing.specs.Parts.{Answers, TypesParts};
 
@@ -41,8 +41,8 @@ fn name(names: &Names<'_>, name: &Word, place: Place) -> Result<Operand, TypeSto
     }
 }
 
-/// What isn't built yet.
-fn unbuilt(place: Place) -> Result<Operand, TypeStop>
+/// What has no place outside of clauses, or isn't typed yet.
+fn misplaced(place: Place) -> Result<Operand, TypeStop>
     ensures { Answers {A = Operand} (refused WrongStructure place) result }
 {
     Err(TypeStop::at(Fault::WrongStructure, place))
@@ -200,19 +200,47 @@ impl<F: Fn(Global, &Names<'_>, &Expr) -> Result<Operand, TypeStop> + Copy> Check
                 },
                 *place,
             ),
-            Expr::Aggregate { place, .. } => unbuilt(*place),
-            Expr::Window { place, .. } => unbuilt(*place),
-            Expr::CountAll { place } => unbuilt(*place),
-            Expr::Offset { place, .. } => unbuilt(*place),
-            Expr::Rank { place, .. } => unbuilt(*place),
-            Expr::CheckDatapoint { place, .. } => unbuilt(*place),
-            Expr::Hierarchy { place, .. } => unbuilt(*place),
-            Expr::CheckHierarchy { place, .. } => unbuilt(*place),
-            Expr::Check { place, .. } => unbuilt(*place),
-            Expr::Time { place, .. } => unbuilt(*place),
-            Expr::Timeshift { place, .. } => unbuilt(*place),
-            Expr::FillTimeSeries { place, .. } => unbuilt(*place),
-            Expr::CallOf { place, .. } => unbuilt(*place),
+            Expr::Aggregate {
+                function,
+                operand,
+                groups,
+                place,
+            } => self.aggregate(*function, operand, groups, *place),
+            Expr::Window {
+                function,
+                operand,
+                over,
+                place,
+            } => self.window(*function, operand, over, *place),
+            Expr::CountAll { place } => misplaced(*place),
+            Expr::Offset {
+                function,
+                operand,
+                offset,
+                over,
+                place,
+            } => self.offset(*function, operand, *offset, over, *place),
+            Expr::Rank { place, .. } => misplaced(*place),
+            Expr::CheckDatapoint { place, .. } => misplaced(*place),
+            Expr::Hierarchy { place, .. } => misplaced(*place),
+            Expr::CheckHierarchy { place, .. } => misplaced(*place),
+            Expr::Check { place, .. } => misplaced(*place),
+            Expr::Time {
+                function,
+                operand,
+                place,
+            } => self.time(*function, operand, *place),
+            Expr::Timeshift {
+                operand,
+                shift,
+                place,
+            } => self.shift(operand, *shift, *place),
+            Expr::FillTimeSeries {
+                operand,
+                span,
+                place,
+            } => self.fill(operand, *span, *place),
+            Expr::CallOf { place, .. } => misplaced(*place),
         }
     }
 }

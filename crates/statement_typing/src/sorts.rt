@@ -1,7 +1,7 @@
 // Arguments and results of defined operators, which are of a sort.
 ghost use Rattle.std.specs.Prelude.{◌≡◌, Ok, IfOk, IfErr};
 ghost use Rattle.data_set_trees.specs.declared.operand.Operand.TheVariants as operands;
-ghost use Rattle.data_set_trees.specs.Expressions as meant;
+ghost use Rattle.expression_rules.specs.Expressions as meant;
 ghost use Rattle.statement_typing.specs.Parts.{Answers};
 
 use data_set_trees::{DataSet, Operand};

@@ -1,6 +1,6 @@
 // Words of functions, and what they stand for.
 ghost use Rattle.std.specs.Prelude.{◌≡◌};
-ghost use Rattle.data_set_trees.specs.Expressions as meant;
+ghost use Rattle.expression_rules.specs.Expressions as meant;
 
 use data_set_trees::{Form, SetOperation};
 use scalar_trees::BinaryOperator;

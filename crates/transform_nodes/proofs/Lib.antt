@@ -10,4 +10,3 @@ pub mod FinishLemmas
 pub mod BuildLemmas
 pub mod NewNodeLemmas
 pub mod WantLemmas
-pub mod FamilyLemmas

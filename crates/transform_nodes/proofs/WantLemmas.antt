@@ -10,6 +10,7 @@ use Rattle.vtl_values.specs.declared.structure.Component.{Component}
 use Rattle.clause_trees.specs.Frames.{has_role}
 use Rattle.clause_trees.specs.declared.clause.CheckedMeasure.{CheckedMeasure}
 use Rattle.vtl_syntax.specs.declared.words.ExistsRows.{ExistsRows}
+use Rattle.vtl_syntax.specs.declared.words.JoinFunction.TheVariants as joining
 use Rattle.data_set_trees.specs.Components.{identifiers, has_name}
 use Rattle.data_set_trees.specs.declared.tree.DataSetOperator.{DataSetOperator}
 use Rattle.data_set_trees.specs.declared.tree.DataSetOperator.TheVariants as operator
@@ -24,10 +25,12 @@ use Rattle.exists_meaning.specs.Exists.{exists_on}
 use Rattle.exists_ops.specs.Parts.{left_want, right_want}
 use Rattle.exists_ops.specs.Rules as exists
 use Rattle.exists_ops.proofs.Wanted.{left-fits, right-fits}
+use Rattle.inner_joins.specs.Rules as inner
+use Rattle.inner_joins.proofs.Wanted.{inner-on, wants-fit, wants-there}
 use Rattle.transform_nodes.specs.Building.{AreWanted, IsWanted}
 use Rattle.transform_nodes.specs.Rules.{operator_of, wanted_of}
 use Rattle.transform_nodes.specs.declared.rule.Rule.{Rule}
-use Rattle.transform_nodes.specs.declared.rule.Rule.TheVariants.{Clause, Pair, Choice, Exists, Set, OuterJoin}
+use Rattle.transform_nodes.specs.declared.rule.Rule.TheVariants.{Clause, Pair, Choice, Exists, Set, OuterJoin, InnerJoin, CrossJoin}
 
 number-below : (s : List Component) (c : Component) (cs : List Component) (n : ℕ) → length s ≤ n → (o : Option ℕ) → position (has_name c.name) s ≡ o
     → All (λ k. k < n) (filter_map (λ d. position (has_name d.name) s) cs) → All (λ k. k < n) (filter_map (λ d. position (has_name d.name) s) (c ∷ cs))
@@ -94,14 +97,24 @@ exists-wanted _ operands structure = All-nil (λ w. IsWanted w operands)
 all-wanted : (operands : List (List Component)) → AreWanted (all_whole (length operands)) operands
 all-wanted operands = all_whole-each (λ w. IsWanted w operands) (length operands) (λ n within. record { below = within; fits = λ operand. whole-fits n (slice_index_or operands n operand) })
 
+inner-wanted : (o : DataSetOperator) (operands : List (List Component)) (structure : List Component) → IsTyped (an_operator o operands structure) → AreWanted (inner.wanted_of (an_operator o operands structure)) operands
+inner-wanted (operator.Join joining.Inner) operands structure typed =
+    let o : Operator = an_operator (operator.Join joining.Inner) operands structure in
+    let on : inner.IsInnerOn (inner.join_in o) = inner-on o typed refl in
+    λ k d within. record { below = wants-there (inner.join_in o) on k d within; fits = wants-fit (inner.join_in o) on k d within }
+inner-wanted _ operands structure typed = All-nil (λ w. IsWanted w operands)
+
 -- what a rule wants of its operator's operands
 pub rule-wanted : (rule : Rule) → IsTyped (operator_of rule) → AreWanted (wanted_of rule) (operator_of rule).operands
+unfolding operator_of wanted_of
 rule-wanted (Clause rule) typed = All-nil (λ w. IsWanted w rule.operands)
 rule-wanted (Pair rule) typed = pairs-wanted rule.operator rule.operands rule.structure typed.takes
 rule-wanted (Choice rule) typed = all-wanted rule.operands
 rule-wanted (Exists rule) typed = exists-wanted rule.operator rule.operands rule.structure
 rule-wanted (Set rule) typed = all-wanted rule.operands
 rule-wanted (OuterJoin rule) typed = all-wanted rule.operands
+rule-wanted (InnerJoin rule) typed = inner-wanted rule.operator rule.operands rule.structure typed
+rule-wanted (CrossJoin rule) typed = all-wanted rule.operands
 
 -- a rule wants operands that its operator has
 pub wanted_below : (rule : Rule) → IsTyped (operator_of rule) → All (λ w. w.operand < length (operator_of rule).operands) (wanted_of rule)

@@ -76,9 +76,10 @@ impl Node {
         let statements = script.statements();
         let named = &statements[statement as usize];
         let sources = sources_of(alloc, &named.tree)?;
-        let tree = child_of(alloc, &named.tree, sources.as_slice())?;
         let uses = uses_of(alloc, statements, statement)?;
         let pages = first_pages(alloc, named)?;
+        // The tree comes last, so that no step that may fail has to drop it.
+        let tree = child_of(alloc, &named.tree, sources.as_slice())?;
         Ok(Node {
             statement,
             sources: Items::from_vec(sources),

@@ -3,10 +3,12 @@ ghost use Rattle.std.specs.Prelude.{◌≡◌, true, IfOk};
 
 use choice_ops::ChoiceRule;
 use clause_ops::ClauseRule;
+use cross_joins::CrossJoinRule;
 use data_model::steps::Steps;
 use data_set_trees::{DataSetNode, DataSetOperator};
 use exists_ops::ExistsRule;
 use held_index::{DeltaRule, Held, Stop, Want};
+use inner_joins::InnerJoinRule;
 use outer_joins::OuterJoinRule;
 use pair_ops::PairRule;
 use point_sets::Delta;
@@ -27,6 +29,8 @@ pub enum Rule {
     Exists(ExistsRule),
     Set(SetRule),
     OuterJoin(OuterJoinRule),
+    InnerJoin(InnerJoinRule),
+    CrossJoin(CrossJoinRule),
 }
 
 impl Rule {
@@ -35,6 +39,7 @@ impl Rule {
     ghost use Rattle.transform_nodes.specs.Rules.{operator_of};
 
     /// The rule of a node's operator.
+    #[tactic(auto, unfolding(crate::specs::Rules::operator_of))]
     pub fn of(alloc: Global, node: &DataSetNode) -> Result<Rule, AllocError>
         requires typed { IsTyped (an_operator node.now.operator node.now.operands node.now.structure) }
         requires built { is_built node.now.operator ≡ true }
@@ -49,12 +54,20 @@ impl Rule {
             DataSetOperator::Join(JoinFunction::Left | JoinFunction::Full) => {
                 Ok(Rule::OuterJoin(OuterJoinRule::of(alloc, node)?))
             }
-            DataSetOperator::Join(JoinFunction::Inner | JoinFunction::Cross) => unreachable!(),
+            DataSetOperator::Join(JoinFunction::Inner) => {
+                Ok(Rule::InnerJoin(InnerJoinRule::of(alloc, node)?))
+            }
+            DataSetOperator::Join(JoinFunction::Cross) => {
+                Ok(Rule::CrossJoin(CrossJoinRule::of(alloc, node)?))
+            }
             DataSetOperator::InJoin(_) => Ok(Rule::Clause(ClauseRule::of(alloc, node)?)),
+            // What isn't built.
+            _ => unreachable!(),
         }
     }
 }
 
+#[tactic(auto, unfolding(crate::specs::Rules::operator_of, crate::specs::Rules::wanted_of, crate::specs::Rules::reach_of))]
 impl DeltaRule for Rule {
     ghost use Rattle.std.specs.Prelude.{length};
     ghost use Rattle.operator_meaning.specs.Operators.{meaning_of, AreOperands};
@@ -83,6 +96,8 @@ impl DeltaRule for Rule {
             Rule::Exists(rule) => rule.wants(),
             Rule::Set(rule) => rule.wants(),
             Rule::OuterJoin(rule) => rule.wants(),
+            Rule::InnerJoin(rule) => rule.wants(),
+            Rule::CrossJoin(rule) => rule.wants(),
         }
     }
 
@@ -94,6 +109,8 @@ impl DeltaRule for Rule {
             Rule::Exists(rule) => rule.result(),
             Rule::Set(rule) => rule.result(),
             Rule::OuterJoin(rule) => rule.result(),
+            Rule::InnerJoin(rule) => rule.result(),
+            Rule::CrossJoin(rule) => rule.result(),
         }
     }
 
@@ -106,26 +123,15 @@ impl DeltaRule for Rule {
         news: &[Arc<Delta>],
         steps: &mut Steps<L>,
     ) -> Result<Delta, Stop> {
-        // Four families have a meaning of their own. What a call promises of the operator is wanted for them, and not its value.
         match self {
             Rule::Clause(rule) => rule.delta(rt, alloc, before, held, news, steps),
             Rule::Pair(rule) => rule.delta(rt, alloc, before, held, news, steps),
-            Rule::Choice(rule) => {
-                let _ = rule.branches();
-                rule.delta(rt, alloc, before, held, news, steps)
-            }
-            Rule::Exists(rule) => {
-                let _ = rule.rows();
-                rule.delta(rt, alloc, before, held, news, steps)
-            }
-            Rule::Set(rule) => {
-                let _ = rule.operation();
-                rule.delta(rt, alloc, before, held, news, steps)
-            }
-            Rule::OuterJoin(rule) => {
-                let _ = rule.plan();
-                rule.delta(rt, alloc, before, held, news, steps)
-            }
+            Rule::Choice(rule) => rule.delta(rt, alloc, before, held, news, steps),
+            Rule::Exists(rule) => rule.delta(rt, alloc, before, held, news, steps),
+            Rule::Set(rule) => rule.delta(rt, alloc, before, held, news, steps),
+            Rule::OuterJoin(rule) => rule.delta(rt, alloc, before, held, news, steps),
+            Rule::InnerJoin(rule) => rule.delta(rt, alloc, before, held, news, steps),
+            Rule::CrossJoin(rule) => rule.delta(rt, alloc, before, held, news, steps),
         }
     }
 }

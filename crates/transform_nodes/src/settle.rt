@@ -3,6 +3,7 @@ ghost use Rattle.std.specs.Prelude.{◌≡◌, [], map, length};
 ghost use Rattle.transform_nodes.specs.Nodes.{all_settled, settled_tree, AllCanSettle, CanSettle};
 ghost use Rattle.transform_nodes.specs.Settling.{own_settled, CanSettleOwn};
 ghost use Rattle.transform_nodes.specs.Trees.{plain, plain_tree, plains_of};
+ghost use Rattle.transform_nodes.specs.declared.work.Settle.TheVariants.{Apply, Forget};
 
 use crate::node::{Child, OpTree};
 use crate::work::Settle;
@@ -22,19 +23,33 @@ fn put_all(held: &mut Vec<Held>, pending: &mut Vec<Patch>)
     }
 }
 
+/// Puts what is pending of an operator itself in place. It takes no memory.
+fn apply_own(tree: &mut OpTree)
+    requires { length tree.old.pending.items ≡ length tree.old.held.items }
+    ensures { plain_tree tree.new ≡ own_settled Apply (plain_tree tree.old) }
+{
+    put_all(&mut tree.held, &mut tree.pending);
+    tree.points = tree.pending_points;
+    tree.pending_points = 0;
+}
+
+/// Drops what is pending of an operator itself. It takes no memory.
+fn forget_own(tree: &mut OpTree)
+    ensures { plain_tree tree.new ≡ own_settled Forget (plain_tree tree.old) }
+{
+    tree.pending.clear();
+    tree.pending_points = 0;
+}
+
 /// Settles what is pending of an operator itself. It takes no memory.
 fn settle_own(tree: &mut OpTree, settle: Settle)
     requires { CanSettleOwn settle (plain_tree tree.old) }
     ensures { plain_tree tree.new ≡ own_settled settle (plain_tree tree.old) }
 {
     match settle {
-        Settle::Apply => {
-            put_all(&mut tree.held, &mut tree.pending);
-            tree.points = tree.pending_points;
-        }
-        Settle::Forget => tree.pending.clear(),
+        Settle::Apply => apply_own(tree),
+        Settle::Forget => forget_own(tree),
     }
-    tree.pending_points = 0;
 }
 
 /// Settles a tree. It takes no memory.

@@ -1,5 +1,5 @@
 -- Forms that have lists in them.
-use Rattle.std.proofs.Common.{◌≡◌, refl, ℕ, Bool, ◌&&◌, List, Option, Some, None, sym, ap, ◌∙◌}
+use Rattle.std.proofs.Common.{◌≡◌, refl, ℕ, Bool, true, ◌&&◌, List, Option, Some, None, sym, ap, ◌∙◌}
 use Rattle.std.specs.Prelude.{option_map}
 use Rattle.std.specs.List.{list_all}
 use Rattle.std.proofs.lemmas.List.Folds.{list_all-map}
@@ -8,7 +8,7 @@ use Rattle.vtl_syntax.specs.declared.expr.Expr.{Expr, map-Expr, roll-Expr, fold-
 use Rattle.vtl_syntax.specs.declared.expr.Expr.TheVariants as tree
 use Rattle.vtl_syntax.specs.declared.expr.Clause.{Clause, map-Clause, roll-Clause, fold-roll-Clause}
 use Rattle.vtl_syntax.specs.declared.expr.Clause.TheVariants as clause
-use Rattle.vtl_syntax.specs.declared.expr.Groups.{Groups, fold-Groups}
+use Rattle.vtl_syntax.specs.declared.expr.Groups.{Groups}
 use Rattle.vtl_syntax.specs.declared.expr.Item.{Item}
 use Rattle.vtl_syntax.specs.declared.expr.JoinOperand.{JoinOperand}
 use Rattle.vtl_syntax.specs.declared.expr.SubstrRange.{SubstrRange}
@@ -17,11 +17,8 @@ use Rattle.vtl_syntax.specs.declared.words.JoinFunction.{JoinFunction}
 use Rattle.vtl_syntax.specs.declared.words.SetFunction.{SetFunction}
 use Rattle.vtl_syntax.proofs.Maps.{maps-Join}
 use Rattle.typed_forms.specs.declared.stand.Stand.{Stand}
-use Rattle.typed_forms.specs.declared.stand.Stand.TheVariants.{Item as Whole}
-use Rattle.typed_forms.specs.Forms.{Typed, of_part, if_given, if_typed, all_typed, expr_step, clause_step, groups_step, item_step, operand_step, range_step, expr_typed, clause_typed, item_typed, operand_typed, range_typed}
-
-abbrev groups_typed : Groups → Typed
-groups_typed = fold-Groups Typed Typed Typed Typed Typed Typed clause_step expr_step groups_step item_step operand_step range_step
+use Rattle.typed_forms.specs.declared.stand.Stand.TheVariants.{Outside, Item as Whole, Inside}
+use Rattle.typed_forms.specs.Forms.{Typed, of_part, if_outside, if_given, if_typed, all_typed, expr_step, clause_step, groups_step, item_step, operand_step, range_step, expr_typed, clause_typed, groups_typed, item_typed, operand_typed, range_typed}
 
 told : (x : Expr-F Clause Expr Groups Item JoinOperand SubstrRange) (e : Expr) (at : Stand) → roll-Expr x ≡ e → expr_typed e at ≡ expr_step (map-Expr Clause Expr Groups Item JoinOperand SubstrRange Typed Typed Typed Typed Typed Typed clause_typed expr_typed groups_typed item_typed operand_typed range_typed x) at
 told x e at is = ap (λ (d : Expr). expr_typed d at) (sym is) ∙ ap (λ (m : Typed). m at) (fold-roll-Expr Typed Typed Typed Typed Typed Typed clause_step expr_step groups_step item_step operand_step range_step x)
@@ -38,6 +35,14 @@ pub calc-typed : (is : List Item) (p : Place) (at : Stand) → clause_typed (cla
 calc-typed is p at =
     clause_told (Clause-F.Calc is p) (clause.Calc is p) at (clause.rolls-Calc is p)
     ∙ list_all-map (λ (t : Typed). t Whole) item_typed is
+
+pub aggr-typed : (is : List Item) (g : Option Groups) (p : Place) (at : Stand) → clause_typed (clause.Aggr is g p) at ≡ if_outside at (list_all (λ (i : Item). item_typed i Inside) is && if_given (λ (h : Groups). groups_typed h Outside) g)
+aggr-typed is None p at =
+    clause_told (Clause-F.Aggr is None p) (clause.Aggr is None p) at (clause.rolls-Aggr is None p)
+    ∙ ap (λ (b : Bool). if_outside at (b && true)) (list_all-map (λ (t : Typed). t Inside) item_typed is)
+aggr-typed is (Some g) p at =
+    clause_told (Clause-F.Aggr is (Some g) p) (clause.Aggr is (Some g) p) at (clause.rolls-Aggr is (Some g) p)
+    ∙ ap (λ (b : Bool). if_outside at (b && groups_typed g Outside)) (list_all-map (λ (t : Typed). t Inside) item_typed is)
 
 given_typed : (c : Option Clause) (at : Stand) → if_typed (option_map clause_typed c) at ≡ if_given (λ (d : Clause). clause_typed d at) c
 given_typed None at = refl

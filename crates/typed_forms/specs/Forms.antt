@@ -3,6 +3,7 @@ use Rattle.std.specs.Prelude.{◌&&◌, Bool, true, false, List, [], ◌∷◌, 
 use Rattle.std.specs.List.{list_all}
 use Rattle.vtl_syntax.specs.declared.expr.Clause.{Clause, fold-Clause}
 use Rattle.vtl_syntax.specs.declared.expr.Expr.{Expr, fold-Expr}
+use Rattle.vtl_syntax.specs.declared.expr.Groups.{Groups, fold-Groups}
 use Rattle.vtl_syntax.specs.declared.expr.Item.{Item, fold-Item}
 use Rattle.vtl_syntax.specs.declared.expr.JoinOperand.{JoinOperand, fold-JoinOperand}
 use Rattle.vtl_syntax.specs.declared.expr.SubstrRange.{SubstrRange, fold-SubstrRange}
@@ -25,11 +26,17 @@ is_in_clause Outside = false
 is_in_clause Whole = true
 is_in_clause Inside = true
 
--- in a clause, and no whole item of `calc`
-abbrev pub is_inside : Stand → Bool
-is_inside Outside = false
-is_inside Whole = false
-is_inside Inside = true
+-- what has a place outside of clauses alone is refused in one, whatever stands in it
+abbrev pub if_outside : Stand → Bool → Bool
+if_outside Outside parts = parts
+if_outside Whole parts = true
+if_outside Inside parts = true
+
+-- so is an analytic operator, but as a whole item of `calc`, where it isn't typed yet
+abbrev pub if_analytic : Stand → Bool → Bool
+if_analytic Outside parts = parts
+if_analytic Whole parts = false
+if_analytic Inside parts = true
 
 -- ---- one level of a tree
 
@@ -48,9 +55,9 @@ all_typed ts at = list_all (λ (t : Typed). t at) ts
 abbrev pub if_typed : Option Typed → Typed
 if_typed t at = if_given (λ (u : Typed). u at) t
 
--- Aggregates, checks and time operators aren't typed yet; in a clause they have no place, and are refused. Nor are
--- analytic operators, which have a place in a clause only as a whole item of `calc`. Calls of defined operators are
--- written out before.
+-- Uses of rulesets and `check` aren't typed yet, and in a clause they have no place and are refused. Nor are analytic
+-- operators as a whole item of `calc`. `count()` has no place outside of clauses, and is refused there. Calls of defined
+-- operators are written out before.
 abbrev pub expr_step : Expr-F Typed Typed Typed Typed Typed Typed → Typed
 expr_step (Expr-F.If c a b p) at = c (of_part at) && (a (of_part at) && b (of_part at))
 expr_step (Expr-F.Or a s b p) at = a (of_part at) && b (of_part at)
@@ -76,22 +83,22 @@ expr_step (Expr-F.ExistsIn a b r p) at = a (of_part at) && b (of_part at)
 expr_step (Expr-F.Sets f a b cs p) at = a (of_part at) && (b (of_part at) && all_typed cs (of_part at))
 expr_step (Expr-F.Difference f a b p) at = a (of_part at) && b (of_part at)
 expr_step (Expr-F.Join f a b cs u v w x p) at = (a (of_part at) && (b (of_part at) && all_typed cs (of_part at))) && (if_typed u (of_part at) && (if_typed v (of_part at) && (if_typed w (of_part at) && if_typed x (of_part at))))
-expr_step (Expr-F.Aggregate f a g p) at = is_in_clause at
-expr_step (Expr-F.Window f a o p) at = is_inside at
-expr_step (Expr-F.CountAll p) at = is_in_clause at
-expr_step (Expr-F.Offset f a n o p) at = is_inside at
-expr_step (Expr-F.Rank o p) at = is_inside at
+expr_step (Expr-F.Aggregate f a g p) at = if_outside at (a Outside && if_typed g Outside)
+expr_step (Expr-F.Window f a o p) at = if_analytic at (a Outside)
+expr_step (Expr-F.CountAll p) at = true
+expr_step (Expr-F.Offset f a n o p) at = if_analytic at (a Outside)
+expr_step (Expr-F.Rank o p) at = if_analytic at true
 expr_step (Expr-F.CheckDatapoint a r q o p) at = is_in_clause at
 expr_step (Expr-F.Hierarchy a r q c m i o p) at = is_in_clause at
 expr_step (Expr-F.CheckHierarchy a r q c m i o p) at = is_in_clause at
 expr_step (Expr-F.Check a c l i o p) at = is_in_clause at
-expr_step (Expr-F.Time f a p) at = is_in_clause at
-expr_step (Expr-F.Timeshift a n p) at = is_in_clause at
-expr_step (Expr-F.FillTimeSeries a s p) at = is_in_clause at
+expr_step (Expr-F.Time f a p) at = if_outside at (a Outside)
+expr_step (Expr-F.Timeshift a n p) at = if_outside at (a Outside)
+expr_step (Expr-F.FillTimeSeries a s p) at = if_outside at (a Outside)
 expr_step (Expr-F.CallOf w arguments p) at = false
 expr_step (Expr-F.Typed s a p) at = a (of_part at)
 
--- `aggr` isn't typed yet; in a clause no clause has a place, and it is refused
+-- in a clause no clause has a place, and is refused
 abbrev pub clause_step : Clause-F Typed Typed Typed Typed Typed Typed → Typed
 clause_step (Clause-F.Filter a p) at = a Inside
 clause_step (Clause-F.Calc is p) at = all_typed is Whole
@@ -100,10 +107,10 @@ clause_step (Clause-F.Drop cs p) at = true
 clause_step (Clause-F.Rename rs p) at = true
 clause_step (Clause-F.Sub is p) at = true
 clause_step (Clause-F.Unpivot i m p) at = true
-clause_step (Clause-F.Aggr is g p) at = is_in_clause at
+clause_step (Clause-F.Aggr is g p) at = if_outside at (all_typed is Inside && if_typed g Outside)
 
 abbrev pub groups_step : Groups-F Typed Typed Typed Typed Typed Typed → Typed
-groups_step g at = true
+groups_step g at = if_typed g.having Inside
 
 abbrev pub item_step : Item-F Typed Typed Typed Typed Typed Typed → Typed
 item_step i = i.expr
@@ -121,6 +128,9 @@ expr_typed = fold-Expr Typed Typed Typed Typed Typed Typed clause_step expr_step
 
 abbrev pub clause_typed : Clause → Typed
 clause_typed = fold-Clause Typed Typed Typed Typed Typed Typed clause_step expr_step groups_step item_step operand_step range_step
+
+abbrev pub groups_typed : Groups → Typed
+groups_typed = fold-Groups Typed Typed Typed Typed Typed Typed clause_step expr_step groups_step item_step operand_step range_step
 
 abbrev pub item_typed : Item → Typed
 item_typed = fold-Item Typed Typed Typed Typed Typed Typed clause_step expr_step groups_step item_step operand_step range_step

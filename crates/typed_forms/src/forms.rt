@@ -1,12 +1,22 @@
 // Whether all forms in a script are typed.
-ghost use Rattle.std.specs.Prelude.{◌≡◌, ◌&&◌};
+ghost use Rattle.std.specs.Prelude.{◌≡◌, ◌&&◌, true};
 ghost use Rattle.std.specs.List.{list_all};
 ghost use Rattle.typed_forms.specs.Forms as meant;
 ghost use Rattle.typed_forms.specs.declared.stand.Stand.TheVariants as Stand;
 
 use crate::stand::Stand;
 use sqlite_items::Boxed;
-use vtl_syntax::{Clause, Expr, Item, JoinOperand, Script, Statement, SubstrRange};
+use vtl_syntax::{Clause, Expr, Groups, Item, JoinOperand, Script, Statement, SubstrRange};
+
+/// `rank`, which has no operand.
+fn rank(at: Stand) -> bool
+    ensures { result ≡ meant.if_analytic at true }
+{
+    match at {
+        Stand::Outside | Stand::Inside => true,
+        Stand::Item => false,
+    }
+}
 
 fn both(first: bool, second: bool) -> bool
     ensures { result ≡ (first && second) }
@@ -93,20 +103,73 @@ fn expr(tree: &Expr, at: Stand) -> bool
                 clauses_typed(clauses, part),
             )
         }
-        Expr::Aggregate { .. } => at.is_in_clause(),
-        Expr::Window { .. } => at.is_inside(),
-        Expr::CountAll { .. } => at.is_in_clause(),
-        Expr::Offset { .. } => at.is_inside(),
-        Expr::Rank { .. } => at.is_inside(),
+        Expr::Aggregate {
+            operand,
+            groups,
+            ..
+        } => aggregate(operand.get(), groups, at),
+        Expr::Window { operand, .. } => analytic(operand.get(), at),
+        Expr::CountAll { .. } => true,
+        Expr::Offset { operand, .. } => analytic(operand.get(), at),
+        Expr::Rank { .. } => rank(at),
         Expr::CheckDatapoint { .. } => at.is_in_clause(),
         Expr::Hierarchy { .. } => at.is_in_clause(),
         Expr::CheckHierarchy { .. } => at.is_in_clause(),
         Expr::Check { .. } => at.is_in_clause(),
-        Expr::Time { .. } => at.is_in_clause(),
-        Expr::Timeshift { .. } => at.is_in_clause(),
-        Expr::FillTimeSeries { .. } => at.is_in_clause(),
+        Expr::Time { operand, .. } => on_set(operand.get(), at),
+        Expr::Timeshift { operand, .. } => on_set(operand.get(), at),
+        Expr::FillTimeSeries { operand, .. } => on_set(operand.get(), at),
         Expr::CallOf { .. } => false,
         Expr::Typed { expr: inner, .. } => expr(inner.get(), at.of_part()),
+    }
+}
+
+/// What has a place outside of clauses alone, on a data set.
+#[cycle(walk)]
+fn on_set(operand: &Expr, at: Stand) -> bool
+    ensures { result ≡ meant.if_outside at (meant.expr_typed operand.now Stand.Outside) }
+{
+    match at {
+        Stand::Outside => expr(operand, Stand::Outside),
+        Stand::Item | Stand::Inside => true,
+    }
+}
+
+#[cycle(walk)]
+fn groups_typed(groups: &Option<Boxed<Groups>>) -> bool
+    ensures { result ≡ meant.if_given (λ g. meant.groups_typed g Stand.Outside) groups.now }
+{
+    match groups {
+        Some(groups) => optional(&groups.get().having, Stand::Inside),
+        None => true,
+    }
+}
+
+#[cycle(walk)]
+fn with_groups(operand: &Expr, groups: &Option<Boxed<Groups>>) -> bool
+    ensures { result ≡ (meant.expr_typed operand.now Stand.Outside && meant.if_given (λ g. meant.groups_typed g Stand.Outside) groups.now) }
+{
+    expr(operand, Stand::Outside) && groups_typed(groups)
+}
+
+#[cycle(walk)]
+fn aggregate(operand: &Expr, groups: &Option<Boxed<Groups>>, at: Stand) -> bool
+    ensures { result ≡ meant.if_outside at (meant.expr_typed operand.now Stand.Outside && meant.if_given (λ g. meant.groups_typed g Stand.Outside) groups.now) }
+{
+    match at {
+        Stand::Outside => with_groups(operand, groups),
+        Stand::Item | Stand::Inside => true,
+    }
+}
+
+#[cycle(walk)]
+fn analytic(operand: &Expr, at: Stand) -> bool
+    ensures { result ≡ meant.if_analytic at (meant.expr_typed operand.now Stand.Outside) }
+{
+    match at {
+        Stand::Outside => expr(operand, Stand::Outside),
+        Stand::Item => false,
+        Stand::Inside => true,
     }
 }
 
@@ -204,13 +267,13 @@ fn clause_typed(clause: &Clause, at: Stand) -> bool
 {
     match clause {
         Clause::Filter { condition, .. } => expr(condition.get(), Stand::Inside),
-        Clause::Calc { items, .. } => items_typed(items.as_slice()),
+        Clause::Calc { items, .. } => items_typed(items.as_slice(), Stand::Item),
         Clause::Keep { .. } => true,
         Clause::Drop { .. } => true,
         Clause::Rename { .. } => true,
         Clause::Sub { .. } => true,
         Clause::Unpivot { .. } => true,
-        Clause::Aggr { .. } => at.is_in_clause(),
+        Clause::Aggr { items, groups, .. } => aggr(items.as_slice(), groups, at),
     }
 }
 
@@ -265,11 +328,11 @@ fn operands_typed(
 }
 
 #[cycle(walk)]
-fn items_typed(items: &[Item]) -> bool
-    ensures { result ≡ list_all (λ i. meant.item_typed i Stand.Item) items.now }
+fn items_typed(items: &[Item], at: Stand) -> bool
+    ensures { result ≡ list_all (λ i. meant.item_typed i at) items.now }
 {
     for item in items {
-        if !item_typed(item) {
+        if !item_typed(item, at) {
             return false;
         }
     }
@@ -277,10 +340,27 @@ fn items_typed(items: &[Item]) -> bool
 }
 
 #[cycle(walk)]
-fn item_typed(item: &Item) -> bool
-    ensures { result ≡ meant.item_typed item.now Stand.Item }
+fn item_typed(item: &Item, at: Stand) -> bool
+    ensures { result ≡ meant.item_typed item.now at }
 {
-    expr(item.expr.get(), Stand::Item)
+    expr(item.expr.get(), at)
+}
+
+#[cycle(walk)]
+fn items_with_groups(items: &[Item], groups: &Option<Boxed<Groups>>) -> bool
+    ensures { result ≡ (list_all (λ i. meant.item_typed i Stand.Inside) items.now && meant.if_given (λ g. meant.groups_typed g Stand.Outside) groups.now) }
+{
+    items_typed(items, Stand::Inside) && groups_typed(groups)
+}
+
+#[cycle(walk)]
+fn aggr(items: &[Item], groups: &Option<Boxed<Groups>>, at: Stand) -> bool
+    ensures { result ≡ meant.if_outside at (list_all (λ i. meant.item_typed i Stand.Inside) items.now && meant.if_given (λ g. meant.groups_typed g Stand.Outside) groups.now) }
+{
+    match at {
+        Stand::Outside => items_with_groups(items, groups),
+        Stand::Item | Stand::Inside => true,
+    }
 }
 
 fn statements_typed(statements: &[Statement]) -> bool
@@ -294,9 +374,8 @@ fn statements_typed(statements: &[Statement]) -> bool
     true
 }
 
-/// Whether the script has no rulesets, and no form that isn't typed yet: outside of clauses no aggregate, analytic
-/// operator, check or time operator, and no clause `aggr`; no analytic operator as a whole item of `calc`; and no call of a
-/// defined operator. Into a form that is refused in a clause in any case it doesn't look. Each expression is looked at once.
+/// Whether the script has no rulesets, and no form that isn't typed yet: outside of clauses no `check` and no use of a
+/// ruleset; no analytic operator as a whole item of `calc`; and no call of a defined operator. Into a form that is refused in a clause in any case it doesn't look. Each expression is looked at once.
 pub fn can_be_typed(script: &Script) -> bool
     ensures { result ≡ meant.can_be_typed script.now }
 {

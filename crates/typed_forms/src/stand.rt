@@ -33,14 +33,4 @@ impl Stand {
             Stand::Item | Stand::Inside => true,
         }
     }
-
-    /// Whether it stands in a clause and is not the whole expression of an item.
-    pub fn is_inside(self) -> bool
-        ensures { result ≡ meant.is_inside self }
-    {
-        match self {
-            Stand::Outside | Stand::Item => false,
-            Stand::Inside => true,
-        }
-    }
 }

@@ -28,4 +28,4 @@ returns-clause-ok c =
     let answered : planned form place operands ≡ Ok plan = ap (planned form place) (sym c.as_slice.ensures) ∙ c.in_ok-plan.ensures.ok in
     lifts form place operands
     ∙ goes_on (planned form place operands) (λ p. Ok (carried_out place p (data_sets operands))) plan answered
-    ∙ ap Ok (ap (carried_out place plan) (sym c.in_ok-sets.ensures) ∙ sym c.in_ok-carried_out.ensures)
+    ∙ ap Ok (sym c.in_ok-finished.ensures)

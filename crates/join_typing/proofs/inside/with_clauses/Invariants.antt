@@ -1,5 +1,5 @@
 use Rattle.std.proofs.Common.{◌≡◌, map, length}
-use Rattle.data_set_trees.specs.Joins as meant
+use Rattle.expression_rules.specs.JoinClauses as meant
 use Rattle.join_typing.specs.Inside.{EachFits}
 use Rattle.join_typing.specs.Joining.{placed, DifferAtEnd}
 use Rattle.join_typing.proofs.inside.with_clauses.Given as goal

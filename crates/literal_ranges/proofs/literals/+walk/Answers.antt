@@ -1,13 +1,19 @@
 use Rattle.std.proofs.Common.{◌≡◌, Bool, ◌&&◌, ap, ◌∙◌}
+use Rattle.std.specs.Prelude.{option_map}
 use Rattle.std.specs.List.{list_all}
-use Rattle.literal_ranges.specs.Ranges.{literals_in_range, clause_in_range, item_in_range, operand_in_range}
-use Rattle.literal_ranges.proofs.Levels.{clauses_in_range, of-Sets, of-Join, of-Calc}
+use Rattle.literal_ranges.specs.Ranges.{if_given, literals_in_range, clause_in_range, groups_in_range, item_in_range, operand_in_range}
+use Rattle.literal_ranges.proofs.Levels.{clauses_in_range, of-Sets, of-Join, of-Calc, of-Aggr}
 use Rattle.literal_ranges.proofs.literals.+walk.Goals as goal
 
 pub see_clause-returns-in-Calc : goal.see_clause-returns-in-Calc
 see_clause-returns-in-Calc t c =
     let is : clause_in_range c.args.clause.now ≡ list_all item_in_range c.as_slice.result.now = rw (c.as_slice.ensures, c.in-Calc.is) (of-Calc c.in-Calc.items c.in-Calc.place) in
     is ∙ c.see_items.ensures
+
+pub see_clause-returns-in-Aggr : goal.see_clause-returns-in-Aggr
+see_clause-returns-in-Aggr t c =
+    let is : clause_in_range c.args.clause.now ≡ (list_all item_in_range c.as_slice-in-Aggr.result.now && if_given (option_map groups_in_range c.in-Aggr.groups)) = rw (c.as_slice-in-Aggr.ensures, c.in-Aggr.is) (of-Aggr c.in-Aggr.items c.in-Aggr.groups c.in-Aggr.place) in
+    is ∙ c.see_items_with_groups.ensures
 
 pub see_literals-returns-in-Sets : goal.see_literals-returns-in-Sets
 see_literals-returns-in-Sets t c =

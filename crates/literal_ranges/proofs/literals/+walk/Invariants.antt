@@ -4,6 +4,7 @@ use Rattle.std.specs.List.{list_all}
 use denote.Param.Weighed.{most}
 use Rattle.vtl_syntax.specs.declared.expr.Expr.{size-Expr}
 use Rattle.vtl_syntax.specs.declared.expr.Clause.{size-Clause}
+use Rattle.vtl_syntax.specs.declared.expr.Groups.{size-Groups}
 use Rattle.vtl_syntax.specs.declared.expr.Item.{size-Item}
 use Rattle.vtl_syntax.specs.declared.expr.JoinOperand.{size-JoinOperand}
 use Rattle.vtl_syntax.specs.declared.expr.SubstrRange.{size-SubstrRange}
@@ -52,6 +53,15 @@ decreases-see_range l = 8 * if_some size-SubstrRange l.range.now + 1
 
 abbrev pub decreases-see_with_range : goal.decreases-see_with_range
 decreases-see_with_range l = 8 * max (size-Expr l.tree.now) (if_some size-SubstrRange l.range.now) + 2
+
+abbrev pub decreases-see_groups : goal.decreases-see_groups
+decreases-see_groups l = 8 * if_some size-Groups l.groups.now
+
+abbrev pub decreases-see_with_groups : goal.decreases-see_with_groups
+decreases-see_with_groups l = 8 * max (size-Expr l.tree.now) (if_some size-Groups l.groups.now) + 1
+
+abbrev pub decreases-see_items_with_groups : goal.decreases-see_items_with_groups
+decreases-see_items_with_groups l = 8 * max (most size-Item l.items.now) (if_some size-Groups l.groups.now) + 2
 
 abbrev pub decreases-see_clause : goal.decreases-see_clause
 decreases-see_clause l = 8 * size-Clause l.clause.now

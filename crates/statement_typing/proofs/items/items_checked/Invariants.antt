@@ -1,5 +1,5 @@
 use Rattle.std.proofs.Common.{◌≡◌, drop}
-use Rattle.data_set_trees.specs.OnClauses.{item_checked}
+use Rattle.expression_rules.specs.OnClauses.{item_checked}
 use Rattle.data_set_parts.specs.Walks.{each}
 use Rattle.data_set_parts.proofs.Binds.{left_after}
 use Rattle.statement_typing.proofs.items.items_checked.Given as goal

@@ -1,6 +1,6 @@
-use Rattle.std.proofs.Common.{◌≡◌, map, ap, sym, ◌∙◌}
+use Rattle.std.proofs.Common.{map, ap, sym, ◌∙◌}
 use Rattle.operator_typing.proofs.Steps.{stops_same}
-use Rattle.data_set_trees.specs.Joins.{inside, join_typed, after_all}
+use Rattle.expression_rules.specs.JoinClauses.{inside, join_typed, after_all}
 use Rattle.join_typing.specs.Joining.{placed, finished}
 use Rattle.join_typing.proofs.Fitting.{keeps_fitting}
 use Rattle.statement_typing.specs.Joins.{clauses_in}

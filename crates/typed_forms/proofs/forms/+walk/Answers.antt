@@ -6,7 +6,7 @@ use Rattle.vtl_syntax.specs.declared.expr.Item.{Item}
 use Rattle.typed_forms.specs.declared.stand.Stand.{Stand}
 use Rattle.typed_forms.specs.declared.stand.Stand.TheVariants.{Item as Whole}
 use Rattle.typed_forms.specs.Forms.{expr_typed, clause_typed, item_typed}
-use Rattle.typed_forms.proofs.Trees.{sets-typed, join-typed, calc-typed}
+use Rattle.typed_forms.proofs.Trees.{sets-typed, join-typed, calc-typed, aggr-typed}
 use Rattle.typed_forms.proofs.forms.+walk.Goals as goal
 
 pub clause_typed-returns-in-Calc : goal.clause_typed-returns-in-Calc
@@ -15,6 +15,9 @@ clause_typed-returns-in-Calc t c =
     ∙ ap (λ (is : List Item). list_all (λ (i : Item). item_typed i Whole) is) c.as_slice.ensures
     ∙ sym (calc-typed c.in-Calc.items c.in-Calc.place c.args.at)
     ∙ ap (λ (d : Clause). clause_typed d c.args.at) (sym c.in-Calc.is)
+
+pub clause_typed-returns-in-Aggr : goal.clause_typed-returns-in-Aggr
+clause_typed-returns-in-Aggr t c = c.aggr.ensures ∙ sym (rw (c.as_slice-in-Aggr.ensures, c.in-Aggr.is) (aggr-typed c.in-Aggr.items c.in-Aggr.groups c.in-Aggr.place c.args.at))
 
 pub expr-returns-in-Sets : goal.expr-returns-in-Sets
 expr-returns-in-Sets t c =

@@ -4,10 +4,10 @@ use Rattle.std.specs.List.{list_all}
 use denote.Param.Weighed.{most}
 use Rattle.vtl_syntax.specs.declared.expr.Expr.{Expr, size-Expr}
 use Rattle.vtl_syntax.specs.declared.expr.Clause.{size-Clause}
+use Rattle.vtl_syntax.specs.declared.expr.Groups.{size-Groups}
 use Rattle.vtl_syntax.specs.declared.expr.Item.{Item, size-Item}
 use Rattle.vtl_syntax.specs.declared.expr.JoinOperand.{JoinOperand, size-JoinOperand}
 use Rattle.vtl_syntax.specs.declared.expr.SubstrRange.{size-SubstrRange}
-use Rattle.typed_forms.specs.declared.stand.Stand.TheVariants.{Item as Whole}
 use Rattle.typed_forms.specs.Forms.{expr_typed, item_typed, operand_typed}
 use Rattle.typed_forms.proofs.Measures.{if_some}
 use Rattle.typed_forms.proofs.forms.+walk.Given as goal
@@ -16,7 +16,7 @@ abbrev pub invariant-each-loop-tree : goal.invariant-each-loop-tree
 invariant-each-loop-tree l = list_all (λ (t : Expr). expr_typed t l.at) l.trees ≡ list_all (λ (t : Expr). expr_typed t l.at) (drop l.tree-index l.trees)
 
 abbrev pub invariant-items_typed-loop-item : goal.invariant-items_typed-loop-item
-invariant-items_typed-loop-item l = list_all (λ (i : Item). item_typed i Whole) l.items ≡ list_all (λ (i : Item). item_typed i Whole) (drop l.item-index l.items)
+invariant-items_typed-loop-item l = list_all (λ (i : Item). item_typed i l.at) l.items ≡ list_all (λ (i : Item). item_typed i l.at) (drop l.item-index l.items)
 
 abbrev pub decreases-expr : goal.decreases-expr
 decreases-expr l = 8 * size-Expr l.tree.now
@@ -56,6 +56,27 @@ decreases-with_clause l = 8 * max (size-Expr l.tree.now) (size-Clause l.clause.n
 
 abbrev pub decreases-clause_typed : goal.decreases-clause_typed
 decreases-clause_typed l = 8 * size-Clause l.clause.now
+
+abbrev pub decreases-on_set : goal.decreases-on_set
+decreases-on_set l = 8 * size-Expr l.operand.now + 1
+
+abbrev pub decreases-groups_typed : goal.decreases-groups_typed
+decreases-groups_typed l = 8 * if_some size-Groups l.groups.now
+
+abbrev pub decreases-with_groups : goal.decreases-with_groups
+decreases-with_groups l = 8 * max (size-Expr l.operand.now) (if_some size-Groups l.groups.now) + 1
+
+abbrev pub decreases-aggregate : goal.decreases-aggregate
+decreases-aggregate l = 8 * max (size-Expr l.operand.now) (if_some size-Groups l.groups.now) + 2
+
+abbrev pub decreases-analytic : goal.decreases-analytic
+decreases-analytic l = 8 * size-Expr l.operand.now + 1
+
+abbrev pub decreases-items_with_groups : goal.decreases-items_with_groups
+decreases-items_with_groups l = 8 * max (most size-Item l.items.now) (if_some size-Groups l.groups.now) + 2
+
+abbrev pub decreases-aggr : goal.decreases-aggr
+decreases-aggr l = 8 * max (most size-Item l.items.now) (if_some size-Groups l.groups.now) + 3
 
 abbrev pub decreases-items_typed : goal.decreases-items_typed
 decreases-items_typed l = 8 * most size-Item l.items.now + 1

@@ -6,34 +6,30 @@ use Rattle.point_sets.specs.Changes.{Changes}
 use Rattle.held_index.specs.Reach.{changes_in}
 use Rattle.held_index.specs.Holdings.{contents}
 use Rattle.checked_trees.specs.Operators.{Operator}
-use Rattle.choice_meaning.specs.Typed.{IsTypedChoice}
 use Rattle.choice_ops.specs.Plans.{choice_in}
 use Rattle.choice_ops.specs.Noted.{keys_from, IsNoted}
-use Rattle.choice_ops.proofs.Marked.{right-answer, some-branches, within-reach}
+use Rattle.choice_ops.proofs.Chosen.{some-branches}
+use Rattle.choice_ops.proofs.Marked.{right-answer, within-reach}
 use Rattle.choice_ops.proofs.rule.ChoiceRuleDeltaRule.delta.Goals as goal
 
 pub returns-clause-answer : goal.returns-clause-answer
 returns-clause-answer g c =
     let o : Operator = c.args.self.now in
     let ds : List Changes = map arc_value c.args.news.now in
-    let typed : IsTypedChoice (choice_in o) = subst (λ (q : Operator). IsTypedChoice (choice_in q)) c.self.view_is c.self.invariant.typed in
-    let some = some-branches o typed in
-    right-answer o typed c.args.held.now ds (length-map c.args.news.now arc_value ∙ c.requires.news) c.in_ok-noted.field-0
-    (λ sets plain sees. subst (λ (q : Operator). IsNoted (choice_in q) (contents c.args.held.now) sets (keys_from (choice_in q) 0 ds) c.in_ok-noted.field-0) c.self.view_is (c.in_ok-noted.ensures.noted sets plain sees))
-    (omega (arith, some)) c.args.before c.finish.result c.finish.ensures
+    right-answer o c.plan.ensures.typed c.plan.ensures.choice c.args.held.now ds (length-map c.args.news.now arc_value ∙ c.requires.news) c.in_ok-noted.field-0
+    (λ sets plain sees. subst (λ (q : Operator). IsNoted (choice_in q) (contents c.args.held.now) sets (keys_from (choice_in q) 0 ds) c.in_ok-noted.field-0) c.plan.ensures.planned (c.in_ok-noted.ensures.noted sets plain sees))
+    c.args.before c.finish.result c.finish.ensures
 
 pub returns-in_err-noted-clause-steps : goal.returns-in_err-noted-clause-steps
 returns-in_err-noted-clause-steps g c =
     let o : Operator = c.args.self.now in
-    let typed : IsTypedChoice (choice_in o) = subst (λ (q : Operator). IsTypedChoice (choice_in q)) c.self.view_is c.self.invariant.typed in
-    let within = within-reach (length o.operands) (changes_in (map arc_value c.args.news.now)) (some-branches o typed) in
+    let within = within-reach (length o.operands) (changes_in (map arc_value c.args.news.now)) (some-branches o c.plan.ensures.typed c.plan.ensures.choice) in
     let taken = c.in_err-noted.ensures.steps in
     omega (arith, within, taken)
 
 pub returns-clause-steps : goal.returns-clause-steps
 returns-clause-steps g c =
     let o : Operator = c.args.self.now in
-    let typed : IsTypedChoice (choice_in o) = subst (λ (q : Operator). IsTypedChoice (choice_in q)) c.self.view_is c.self.invariant.typed in
-    let within = within-reach (length o.operands) (changes_in (map arc_value c.args.news.now)) (some-branches o typed) in
+    let within = within-reach (length o.operands) (changes_in (map arc_value c.args.news.now)) (some-branches o c.plan.ensures.typed c.plan.ensures.choice) in
     let taken = c.in_ok-noted.ensures.steps in
     omega (arith, within, taken)

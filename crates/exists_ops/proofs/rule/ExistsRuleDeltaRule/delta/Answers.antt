@@ -6,6 +6,7 @@ use Rattle.std.specs.FinMap.{entries, keys}
 use Rattle.vtl_values.specs.declared.value.Value.{Value}
 use Rattle.point_sets.specs.Changes.{Changes}
 use Rattle.checked_trees.specs.Operators.{Operator}
+use Rattle.operator_meaning.specs.Operators.{meaning_of, AreOperands}
 use Rattle.held_index.specs.Drafts.{SetDraft}
 use Rattle.held_index.specs.Holdings.{Holding}
 use Rattle.held_index.specs.Rules.{IsRightAnswer}
@@ -13,9 +14,9 @@ use Rattle.held_index.specs.declared.want.Want.{Want}
 use Rattle.exists_meaning.specs.Exists.{ExistsOn, exists_on}
 use Rattle.exists_ops.specs.Noted.{IsFor, IsNoted}
 use Rattle.exists_ops.specs.Parts.{AreShifts, left_numbers, left_want, right_numbers, right_want}
-use Rattle.exists_ops.specs.Rules.{both, meaning_of, operator_of, wanted_of, AreOperands}
+use Rattle.exists_ops.specs.Rules.{both, operator_of, wanted_of}
 use Rattle.exists_ops.specs.declared.parts.Shift.{Shift}
-use Rattle.exists_ops.proofs.Answered.{held-two, right-for-all, two-in, within-reach}
+use Rattle.exists_ops.proofs.Answered.{held-two, right-for-all, two-in, typed-two, within-reach}
 use Rattle.exists_ops.proofs.Noting.{noted-nothing}
 use Rattle.exists_ops.proofs.rule.ExistsRuleDeltaRule.delta.Goals as goal
 
@@ -45,7 +46,7 @@ returns-clause-answer g c =
     (subst (λ (o : Operator). AnswersRight o (both e) c.args.held.now (map arc_value c.args.news.now)) c.self.view_is
     (subst (λ (hs : List Holding). AnswersRight (operator_of e) (both e) hs (map arc_value c.args.news.now)) held.0
     (subst (λ (ds : List Changes). AnswersRight (operator_of e) (both e) (h ∷ k ∷ []) ds) (ap (map arc_value) news)
-    (right-for-all e told h k d f shifts c.args.before c.note_parts.new.draft c.self.invariant.typed c.self.invariant.rows_are c.self.invariant.virals_are held.1 held.2 kept noted c.finish.result c.finish.ensures))))
+    (right-for-all e told h k d f shifts c.args.before c.note_parts.new.draft (typed-two e c.self.invariant.typed) c.self.invariant.rows_are c.self.invariant.virals_are held.1 held.2 kept noted c.finish.result c.finish.ensures))))
 
 pub returns-clause-steps : goal.returns-clause-steps
 returns-clause-steps g c =
@@ -58,7 +59,7 @@ returns-clause-steps g c =
     let theirs : c.as_slice.result.now ≡ right_numbers e = c.as_slice.ensures ∙ ap (λ (ws : List Want). (get_or ws 1 c.index-wants-1.result).part) wants in
     let kept : AreShifts (right_numbers e) (entries f) shifts = subst (λ ns. AreShifts ns (entries f) shifts) theirs (rw c.deref.ensures at c.in_ok-shifts.ensures) in
     let within =
-    within-reach e c.args.self.now c.self.view_is c.self.invariant.typed c.args.held.now c.index-held-0.result c.index-held-1.result c.requires.held c.index-held-0.is c.index-held-1.is
+    within-reach e c.args.self.now c.self.view_is (typed-two e c.self.invariant.typed) c.args.held.now c.index-held-0.result c.index-held-1.result c.requires.held c.index-held-0.is c.index-held-1.is
     (map arc_value c.args.news.now) (arc_value c.index-news-0.result) f (ap (map arc_value) news) shifts kept in
     let looks = rw c.deref-2.ensures at c.in_ok-note_changes.ensures.steps in
     let walks = c.in_ok-note_parts.ensures.steps in
@@ -75,7 +76,7 @@ returns-in_err-note_parts-clause-steps g c =
     let theirs : c.as_slice.result.now ≡ right_numbers e = c.as_slice.ensures ∙ ap (λ (ws : List Want). (get_or ws 1 c.index-wants-1.result).part) wants in
     let kept : AreShifts (right_numbers e) (entries f) shifts = subst (λ ns. AreShifts ns (entries f) shifts) theirs (rw c.deref.ensures at c.in_ok-shifts.ensures) in
     let within =
-    within-reach e c.args.self.now c.self.view_is c.self.invariant.typed c.args.held.now c.index-held-0.result c.index-held-1.result c.requires.held c.index-held-0.is c.index-held-1.is
+    within-reach e c.args.self.now c.self.view_is (typed-two e c.self.invariant.typed) c.args.held.now c.index-held-0.result c.index-held-1.result c.requires.held c.index-held-0.is c.index-held-1.is
     (map arc_value c.args.news.now) (arc_value c.index-news-0.result) f (ap (map arc_value) news) shifts kept in
     let looks = rw c.deref-2.ensures at c.in_ok-note_changes.ensures.steps in
     let walks = c.in_err-note_parts.ensures.steps in

@@ -1,5 +1,5 @@
 use Rattle.std.proofs.Common.{List, ap₂}
-use Rattle.data_set_trees.specs.Expressions.{Naming}
+use Rattle.expression_rules.specs.Expressions.{Naming}
 use Rattle.script_typing.specs.declared.state.State.{State}
 use Rattle.script_typing.specs.States.{SoFar}
 use Rattle.script_typing.proofs.typing.Typing.put.Goals as goal

@@ -1,7 +1,7 @@
 use Rattle.std.proofs.Common.{map, drop, sym, ◌∙◌}
 use Rattle.std.proofs.Math.ListN.{drop_of_length-le}
 use Rattle.operator_typing.proofs.Steps.{stops_same}
-use Rattle.data_set_trees.specs.Expressions.{typing, all_typed, typed}
+use Rattle.expression_rules.specs.Expressions.{typing, all_typed, typed}
 use Rattle.data_set_parts.specs.Walks.{each}
 use Rattle.data_set_parts.proofs.Binds.{each_stops, each_ends}
 use Rattle.statement_typing.specs.Names.{naming_of}

@@ -1,5 +1,5 @@
 use Rattle.std.proofs.Common.{◌≡◌, drop}
-use Rattle.data_set_trees.specs.Expressions.{typed}
+use Rattle.expression_rules.specs.Expressions.{typed}
 use Rattle.data_set_parts.specs.Walks.{each}
 use Rattle.data_set_parts.proofs.Binds.{left_after}
 use Rattle.statement_typing.specs.Names.{naming_of}

@@ -2,7 +2,7 @@ use Rattle.std.proofs.Common.{map, drop, sym, ◌∙◌}
 use Rattle.std.proofs.Math.ListN.{drop_of_length-le}
 use Rattle.operator_typing.proofs.Steps.{stops_same}
 use Rattle.vtl_syntax.specs.declared.expr.JoinOperand.{JoinOperand}
-use Rattle.data_set_trees.specs.Expressions.{all_typed}
+use Rattle.expression_rules.specs.Expressions.{all_typed}
 use Rattle.data_set_parts.specs.Walks.{each}
 use Rattle.data_set_parts.proofs.Binds.{each_stops, each_ends}
 use Rattle.statement_typing.specs.Joins.{typing_of}

@@ -18,8 +18,9 @@ use Rattle.data_set_trees.specs.declared.operand.Operand.TheVariants as operands
 use Rattle.data_set_trees.specs.Members.{member_typed}
 use Rattle.data_set_trees.specs.Exists.{exists_typed}
 use Rattle.data_set_trees.specs.Sets.{sets_typed}
-use Rattle.data_set_trees.specs.OnClauses.{on_clause}
-use Rattle.data_set_trees.specs.Expressions as meant
+use Rattle.expression_rules.specs.OnClauses.{on_clause}
+use Rattle.expression_rules.specs.OnSets.{on_aggregate, on_window, on_offset, on_time, on_shift, on_fill}
+use Rattle.expression_rules.specs.Expressions as meant
 use Rattle.statement_typing.specs.Joins.{clauses_in, join_on}
 use Rattle.statement_typing.specs.Names.{naming_of}
 use Rattle.statement_typing.specs.Parts.{after_one, after_all, of_optional, of_optional_range}
@@ -108,14 +109,14 @@ returns-in-Join g c =
 pub returns-in-Aggregate : goal.returns-in-Aggregate
 returns-in-Aggregate g c =
     let naming = naming_of c.args.self.now.names.now in
-    let value : SetAnswer = refused WrongStructure c.in-Aggregate.place in
-    answers_level naming (Expr-F.Aggregate c.in-Aggregate.function c.in-Aggregate.operand c.in-Aggregate.groups c.in-Aggregate.place) c.args.self.now.tree.now value c.unbuilt.result (tree.rolls-Aggregate c.in-Aggregate.function c.in-Aggregate.operand c.in-Aggregate.groups c.in-Aggregate.place ∙ sym c.in-Aggregate.is) (aggregate_level naming c.in-Aggregate.function c.in-Aggregate.operand c.in-Aggregate.groups c.in-Aggregate.place) c.unbuilt.ensures
+    let value : SetAnswer = after_one naming c.in-Aggregate.operand (on_aggregate c.in-Aggregate.function c.in-Aggregate.groups c.in-Aggregate.place) in
+    answers_level naming (Expr-F.Aggregate c.in-Aggregate.function c.in-Aggregate.operand c.in-Aggregate.groups c.in-Aggregate.place) c.args.self.now.tree.now value c.aggregate.result (tree.rolls-Aggregate c.in-Aggregate.function c.in-Aggregate.operand c.in-Aggregate.groups c.in-Aggregate.place ∙ sym c.in-Aggregate.is) (aggregate_level naming c.in-Aggregate.function c.in-Aggregate.operand c.in-Aggregate.groups c.in-Aggregate.place) c.aggregate.ensures
 
 pub returns-in-Check : goal.returns-in-Check
 returns-in-Check g c =
     let naming = naming_of c.args.self.now.names.now in
     let value : SetAnswer = refused WrongStructure c.in-Check.place in
-    answers_level naming (Expr-F.Check c.in-Check.operand c.in-Check.code c.in-Check.level c.in-Check.imbalance c.in-Check.output c.in-Check.place) c.args.self.now.tree.now value c.unbuilt-in-Check.result (tree.rolls-Check c.in-Check.operand c.in-Check.code c.in-Check.level c.in-Check.imbalance c.in-Check.output c.in-Check.place ∙ sym c.in-Check.is) (check_level naming c.in-Check.operand c.in-Check.code c.in-Check.level c.in-Check.imbalance c.in-Check.output c.in-Check.place) c.unbuilt-in-Check.ensures
+    answers_level naming (Expr-F.Check c.in-Check.operand c.in-Check.code c.in-Check.level c.in-Check.imbalance c.in-Check.output c.in-Check.place) c.args.self.now.tree.now value c.misplaced-in-Check.result (tree.rolls-Check c.in-Check.operand c.in-Check.code c.in-Check.level c.in-Check.imbalance c.in-Check.output c.in-Check.place ∙ sym c.in-Check.is) (check_level naming c.in-Check.operand c.in-Check.code c.in-Check.level c.in-Check.imbalance c.in-Check.output c.in-Check.place) c.misplaced-in-Check.ensures
 
 pub returns-in-Literal : goal.returns-in-Literal
 returns-in-Literal g c =
@@ -207,65 +208,65 @@ returns-in-ExistsIn g c =
 pub returns-in-Window : goal.returns-in-Window
 returns-in-Window g c =
     let naming = naming_of c.args.self.now.names.now in
-    let value : SetAnswer = refused WrongStructure c.in-Window.place in
-    answers_level naming (Expr-F.Window c.in-Window.function c.in-Window.operand c.in-Window.over c.in-Window.place) c.args.self.now.tree.now value c.unbuilt-in-Window.result (tree.rolls-Window c.in-Window.function c.in-Window.operand c.in-Window.over c.in-Window.place ∙ sym c.in-Window.is) (refl) c.unbuilt-in-Window.ensures
+    let value : SetAnswer = after_one naming c.in-Window.operand (on_window c.in-Window.function c.in-Window.over c.in-Window.place) in
+    answers_level naming (Expr-F.Window c.in-Window.function c.in-Window.operand c.in-Window.over c.in-Window.place) c.args.self.now.tree.now value c.window.result (tree.rolls-Window c.in-Window.function c.in-Window.operand c.in-Window.over c.in-Window.place ∙ sym c.in-Window.is) (refl) c.window.ensures
 
 pub returns-in-CountAll : goal.returns-in-CountAll
 returns-in-CountAll g c =
     let naming = naming_of c.args.self.now.names.now in
     let value : SetAnswer = refused WrongStructure c.in-CountAll.place in
-    answers_level naming (Expr-F.CountAll c.in-CountAll.place) c.args.self.now.tree.now value c.unbuilt-in-CountAll.result (tree.rolls-CountAll c.in-CountAll.place ∙ sym c.in-CountAll.is) (refl) c.unbuilt-in-CountAll.ensures
+    answers_level naming (Expr-F.CountAll c.in-CountAll.place) c.args.self.now.tree.now value c.misplaced.result (tree.rolls-CountAll c.in-CountAll.place ∙ sym c.in-CountAll.is) (refl) c.misplaced.ensures
 
 pub returns-in-Offset : goal.returns-in-Offset
 returns-in-Offset g c =
     let naming = naming_of c.args.self.now.names.now in
-    let value : SetAnswer = refused WrongStructure c.in-Offset.place in
-    answers_level naming (Expr-F.Offset c.in-Offset.function c.in-Offset.operand c.in-Offset.offset c.in-Offset.over c.in-Offset.place) c.args.self.now.tree.now value c.unbuilt-in-Offset.result (tree.rolls-Offset c.in-Offset.function c.in-Offset.operand c.in-Offset.offset c.in-Offset.over c.in-Offset.place ∙ sym c.in-Offset.is) (refl) c.unbuilt-in-Offset.ensures
+    let value : SetAnswer = after_one naming c.in-Offset.operand (on_offset c.in-Offset.function c.in-Offset.offset c.in-Offset.over c.in-Offset.place) in
+    answers_level naming (Expr-F.Offset c.in-Offset.function c.in-Offset.operand c.in-Offset.offset c.in-Offset.over c.in-Offset.place) c.args.self.now.tree.now value c.offset.result (tree.rolls-Offset c.in-Offset.function c.in-Offset.operand c.in-Offset.offset c.in-Offset.over c.in-Offset.place ∙ sym c.in-Offset.is) (refl) c.offset.ensures
 
 pub returns-in-Rank : goal.returns-in-Rank
 returns-in-Rank g c =
     let naming = naming_of c.args.self.now.names.now in
     let value : SetAnswer = refused WrongStructure c.in-Rank.place in
-    answers_level naming (Expr-F.Rank c.in-Rank.over c.in-Rank.place) c.args.self.now.tree.now value c.unbuilt-in-Rank.result (tree.rolls-Rank c.in-Rank.over c.in-Rank.place ∙ sym c.in-Rank.is) (refl) c.unbuilt-in-Rank.ensures
+    answers_level naming (Expr-F.Rank c.in-Rank.over c.in-Rank.place) c.args.self.now.tree.now value c.misplaced-in-Rank.result (tree.rolls-Rank c.in-Rank.over c.in-Rank.place ∙ sym c.in-Rank.is) (refl) c.misplaced-in-Rank.ensures
 
 pub returns-in-CheckDatapoint : goal.returns-in-CheckDatapoint
 returns-in-CheckDatapoint g c =
     let naming = naming_of c.args.self.now.names.now in
     let value : SetAnswer = refused WrongStructure c.in-CheckDatapoint.place in
-    answers_level naming (Expr-F.CheckDatapoint c.in-CheckDatapoint.operand c.in-CheckDatapoint.ruleset c.in-CheckDatapoint.ruleset_place c.in-CheckDatapoint.output c.in-CheckDatapoint.place) c.args.self.now.tree.now value c.unbuilt-in-CheckDatapoint.result (tree.rolls-CheckDatapoint c.in-CheckDatapoint.operand c.in-CheckDatapoint.ruleset c.in-CheckDatapoint.ruleset_place c.in-CheckDatapoint.output c.in-CheckDatapoint.place ∙ sym c.in-CheckDatapoint.is) (refl) c.unbuilt-in-CheckDatapoint.ensures
+    answers_level naming (Expr-F.CheckDatapoint c.in-CheckDatapoint.operand c.in-CheckDatapoint.ruleset c.in-CheckDatapoint.ruleset_place c.in-CheckDatapoint.output c.in-CheckDatapoint.place) c.args.self.now.tree.now value c.misplaced-in-CheckDatapoint.result (tree.rolls-CheckDatapoint c.in-CheckDatapoint.operand c.in-CheckDatapoint.ruleset c.in-CheckDatapoint.ruleset_place c.in-CheckDatapoint.output c.in-CheckDatapoint.place ∙ sym c.in-CheckDatapoint.is) (refl) c.misplaced-in-CheckDatapoint.ensures
 
 pub returns-in-Hierarchy : goal.returns-in-Hierarchy
 returns-in-Hierarchy g c =
     let naming = naming_of c.args.self.now.names.now in
     let value : SetAnswer = refused WrongStructure c.in-Hierarchy.place in
-    answers_level naming (Expr-F.Hierarchy c.in-Hierarchy.operand c.in-Hierarchy.ruleset c.in-Hierarchy.ruleset_place c.in-Hierarchy.component c.in-Hierarchy.mode c.in-Hierarchy.input c.in-Hierarchy.output c.in-Hierarchy.place) c.args.self.now.tree.now value c.unbuilt-in-Hierarchy.result (tree.rolls-Hierarchy c.in-Hierarchy.operand c.in-Hierarchy.ruleset c.in-Hierarchy.ruleset_place c.in-Hierarchy.component c.in-Hierarchy.mode c.in-Hierarchy.input c.in-Hierarchy.output c.in-Hierarchy.place ∙ sym c.in-Hierarchy.is) (refl) c.unbuilt-in-Hierarchy.ensures
+    answers_level naming (Expr-F.Hierarchy c.in-Hierarchy.operand c.in-Hierarchy.ruleset c.in-Hierarchy.ruleset_place c.in-Hierarchy.component c.in-Hierarchy.mode c.in-Hierarchy.input c.in-Hierarchy.output c.in-Hierarchy.place) c.args.self.now.tree.now value c.misplaced-in-Hierarchy.result (tree.rolls-Hierarchy c.in-Hierarchy.operand c.in-Hierarchy.ruleset c.in-Hierarchy.ruleset_place c.in-Hierarchy.component c.in-Hierarchy.mode c.in-Hierarchy.input c.in-Hierarchy.output c.in-Hierarchy.place ∙ sym c.in-Hierarchy.is) (refl) c.misplaced-in-Hierarchy.ensures
 
 pub returns-in-CheckHierarchy : goal.returns-in-CheckHierarchy
 returns-in-CheckHierarchy g c =
     let naming = naming_of c.args.self.now.names.now in
     let value : SetAnswer = refused WrongStructure c.in-CheckHierarchy.place in
-    answers_level naming (Expr-F.CheckHierarchy c.in-CheckHierarchy.operand c.in-CheckHierarchy.ruleset c.in-CheckHierarchy.ruleset_place c.in-CheckHierarchy.component c.in-CheckHierarchy.mode c.in-CheckHierarchy.input c.in-CheckHierarchy.output c.in-CheckHierarchy.place) c.args.self.now.tree.now value c.unbuilt-in-CheckHierarchy.result (tree.rolls-CheckHierarchy c.in-CheckHierarchy.operand c.in-CheckHierarchy.ruleset c.in-CheckHierarchy.ruleset_place c.in-CheckHierarchy.component c.in-CheckHierarchy.mode c.in-CheckHierarchy.input c.in-CheckHierarchy.output c.in-CheckHierarchy.place ∙ sym c.in-CheckHierarchy.is) (refl) c.unbuilt-in-CheckHierarchy.ensures
+    answers_level naming (Expr-F.CheckHierarchy c.in-CheckHierarchy.operand c.in-CheckHierarchy.ruleset c.in-CheckHierarchy.ruleset_place c.in-CheckHierarchy.component c.in-CheckHierarchy.mode c.in-CheckHierarchy.input c.in-CheckHierarchy.output c.in-CheckHierarchy.place) c.args.self.now.tree.now value c.misplaced-in-CheckHierarchy.result (tree.rolls-CheckHierarchy c.in-CheckHierarchy.operand c.in-CheckHierarchy.ruleset c.in-CheckHierarchy.ruleset_place c.in-CheckHierarchy.component c.in-CheckHierarchy.mode c.in-CheckHierarchy.input c.in-CheckHierarchy.output c.in-CheckHierarchy.place ∙ sym c.in-CheckHierarchy.is) (refl) c.misplaced-in-CheckHierarchy.ensures
 
 pub returns-in-Time : goal.returns-in-Time
 returns-in-Time g c =
     let naming = naming_of c.args.self.now.names.now in
-    let value : SetAnswer = refused WrongStructure c.in-Time.place in
-    answers_level naming (Expr-F.Time c.in-Time.function c.in-Time.operand c.in-Time.place) c.args.self.now.tree.now value c.unbuilt-in-Time.result (tree.rolls-Time c.in-Time.function c.in-Time.operand c.in-Time.place ∙ sym c.in-Time.is) (refl) c.unbuilt-in-Time.ensures
+    let value : SetAnswer = after_one naming c.in-Time.operand (on_time c.in-Time.function c.in-Time.place) in
+    answers_level naming (Expr-F.Time c.in-Time.function c.in-Time.operand c.in-Time.place) c.args.self.now.tree.now value c.time.result (tree.rolls-Time c.in-Time.function c.in-Time.operand c.in-Time.place ∙ sym c.in-Time.is) (refl) c.time.ensures
 
 pub returns-in-Timeshift : goal.returns-in-Timeshift
 returns-in-Timeshift g c =
     let naming = naming_of c.args.self.now.names.now in
-    let value : SetAnswer = refused WrongStructure c.in-Timeshift.place in
-    answers_level naming (Expr-F.Timeshift c.in-Timeshift.operand c.in-Timeshift.shift c.in-Timeshift.place) c.args.self.now.tree.now value c.unbuilt-in-Timeshift.result (tree.rolls-Timeshift c.in-Timeshift.operand c.in-Timeshift.shift c.in-Timeshift.place ∙ sym c.in-Timeshift.is) (refl) c.unbuilt-in-Timeshift.ensures
+    let value : SetAnswer = after_one naming c.in-Timeshift.operand (on_shift c.in-Timeshift.shift c.in-Timeshift.place) in
+    answers_level naming (Expr-F.Timeshift c.in-Timeshift.operand c.in-Timeshift.shift c.in-Timeshift.place) c.args.self.now.tree.now value c.shift.result (tree.rolls-Timeshift c.in-Timeshift.operand c.in-Timeshift.shift c.in-Timeshift.place ∙ sym c.in-Timeshift.is) (refl) c.shift.ensures
 
 pub returns-in-FillTimeSeries : goal.returns-in-FillTimeSeries
 returns-in-FillTimeSeries g c =
     let naming = naming_of c.args.self.now.names.now in
-    let value : SetAnswer = refused WrongStructure c.in-FillTimeSeries.place in
-    answers_level naming (Expr-F.FillTimeSeries c.in-FillTimeSeries.operand c.in-FillTimeSeries.span c.in-FillTimeSeries.place) c.args.self.now.tree.now value c.unbuilt-in-FillTimeSeries.result (tree.rolls-FillTimeSeries c.in-FillTimeSeries.operand c.in-FillTimeSeries.span c.in-FillTimeSeries.place ∙ sym c.in-FillTimeSeries.is) (refl) c.unbuilt-in-FillTimeSeries.ensures
+    let value : SetAnswer = after_one naming c.in-FillTimeSeries.operand (on_fill c.in-FillTimeSeries.span c.in-FillTimeSeries.place) in
+    answers_level naming (Expr-F.FillTimeSeries c.in-FillTimeSeries.operand c.in-FillTimeSeries.span c.in-FillTimeSeries.place) c.args.self.now.tree.now value c.fill.result (tree.rolls-FillTimeSeries c.in-FillTimeSeries.operand c.in-FillTimeSeries.span c.in-FillTimeSeries.place ∙ sym c.in-FillTimeSeries.is) (refl) c.fill.ensures
 
 pub returns-in-CallOf : goal.returns-in-CallOf
 returns-in-CallOf g c =
     let naming = naming_of c.args.self.now.names.now in
     let value : SetAnswer = refused WrongStructure c.in-CallOf.place in
-    answers_level naming (Expr-F.CallOf c.in-CallOf.name c.in-CallOf.arguments c.in-CallOf.place) c.args.self.now.tree.now value c.unbuilt-in-CallOf.result (tree.rolls-CallOf c.in-CallOf.name c.in-CallOf.arguments c.in-CallOf.place ∙ sym c.in-CallOf.is) (refl) c.unbuilt-in-CallOf.ensures
+    answers_level naming (Expr-F.CallOf c.in-CallOf.name c.in-CallOf.arguments c.in-CallOf.place) c.args.self.now.tree.now value c.misplaced-in-CallOf.result (tree.rolls-CallOf c.in-CallOf.name c.in-CallOf.arguments c.in-CallOf.place ∙ sym c.in-CallOf.is) (refl) c.misplaced-in-CallOf.ensures

@@ -1,6 +1,6 @@
 use Rattle.std.proofs.Common.{[], ◌∷◌, ◌++◌}
 use Rattle.data_set_trees.specs.declared.form.Form.TheVariants as form
-use Rattle.data_set_trees.specs.Expressions.{typing, all_typed}
+use Rattle.expression_rules.specs.Expressions.{typing, all_typed}
 use Rattle.data_set_trees.specs.Pairs.{lifted}
 use Rattle.statement_typing.specs.Names.{naming_of}
 use Rattle.statement_typing.specs.Parts.{of_optional}

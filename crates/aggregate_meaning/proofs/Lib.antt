@@ -1,0 +1,6 @@
+pub mod Groups
+pub mod Covered
+pub mod Reduced
+pub mod Rows
+pub mod Fits
+pub mod Worked

@@ -1,0 +1,4 @@
+pub mod Reductions
+pub mod Groups
+pub mod Aggregates
+pub mod Examples

@@ -1,0 +1,4 @@
+mod OfParts
+mod OnGroups
+mod Steps
+mod Structures

@@ -1,6 +1,0 @@
-use Rattle.std.proofs.Common.{◌≡◌, drop}
-use Rattle.clause_trees.specs.Clauses.{demands}
-use Rattle.clause_typing.proofs.demands.demands.Given as goal
-
-abbrev pub invariant-loop-holds : goal.invariant-loop-holds
-invariant-loop-holds l = demands l.place l.demands ≡ demands l.place (drop l.holds-index l.demands)

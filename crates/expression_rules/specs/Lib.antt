@@ -1,0 +1,5 @@
+pub mod OnClauses
+pub mod JoinClauses
+pub mod OnSets
+pub mod Expressions
+pub mod Examples

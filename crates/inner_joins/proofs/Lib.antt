@@ -1,0 +1,10 @@
+pub mod Keys
+pub mod Places
+pub mod Wanted
+pub mod Behind
+pub mod Meetings
+pub mod Sights
+pub mod Folded
+pub mod Counted
+pub mod Right
+pub mod Shared

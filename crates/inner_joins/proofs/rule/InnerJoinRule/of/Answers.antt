@@ -1,0 +1,14 @@
+use Rattle.std.proofs.Common.{List, sym, subst}
+use Rattle.vtl_values.specs.declared.structure.Component.{Component}
+use Rattle.vtl_syntax.specs.declared.words.JoinFunction.TheVariants.{Inner}
+use Rattle.checked_trees.specs.Operators.{an_operator, Operator}
+use Rattle.join_meaning.specs.Joins.{join_on}
+use Rattle.join_meaning.specs.Typed.{IsTypedJoinOn}
+use Rattle.inner_joins.proofs.Wanted.{inner-on}
+use Rattle.inner_joins.proofs.rule.InnerJoinRule.of.Goals as goal
+
+pub of-requires : goal.of-requires
+of-requires c =
+    let node = c.args.node.now in
+    let o : Operator = an_operator node.operator node.operands node.structure in
+    subst (λ (ss : List (List Component)). IsTypedJoinOn (join_on Inner ss node.structure)) (sym c.as_slice.ensures) (inner-on o c.requires.typed c.requires.inner).typed

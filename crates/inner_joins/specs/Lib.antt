@@ -1,0 +1,4 @@
+pub mod Rules
+pub mod Noted
+pub mod Reach
+pub mod ReachLaws

@@ -1,0 +1,4 @@
+mod FirstFaults
+mod PointRules
+mod Uses
+mod Walked

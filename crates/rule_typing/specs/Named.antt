@@ -1,0 +1,26 @@
+-- Variables of rulesets on a frame.
+use Rattle.std.specs.Prelude.{ℕ, Bool, false, not, ◌&&◌, List, map, filter_map, nat_eq, Option, option_map, is_some}
+use Rattle.std.specs.List.{list_all}
+use Rattle.std.specs.Option.{option_map_or}
+use Rattle.vtl_values.specs.declared.kind.Role.TheVariants.{Identifier}
+use Rattle.vtl_syntax.specs.declared.ruleset.Variable.{Variable}
+use Rattle.typing_rules.specs.declared.scope.Scope.{Scope}
+use Rattle.typing_rules.specs.declared.scope.ScopeName.{ScopeName}
+use Rattle.typing_rules.specs.Scopes.{column_of}
+use Rattle.clause_trees.specs.declared.frame.Frame.{Frame}
+use Rattle.clause_trees.specs.Clauses.{bare_number_of, passes_at}
+use Rattle.clause_trees.specs.Frames.{bare, has_role}
+use Rattle.rule_trees.specs.Rules.{name_in_rules}
+
+abbrev pub variable_on : Frame → Variable → Option ScopeName
+variable_on frame v = option_map (bare (name_in_rules v)) (bare_number_of frame v.name)
+
+abbrev pub known_on : Frame → List Variable → Bool
+known_on frame variables = list_all (λ (v : Variable). is_some (bare_number_of frame v.name)) variables
+
+abbrev pub scope_on : Frame → List Variable → Scope
+scope_on frame variables = record { names = filter_map (variable_on frame) variables; columns = map column_of frame.components }
+
+-- conditions go by identifiers other than the rule component
+abbrev pub conditions_on : Frame → ℕ → Variable → Bool
+conditions_on frame item v = option_map_or (λ number. passes_at (has_role Identifier) frame number && not (nat_eq number item)) (bare_number_of frame v.name) false

@@ -1,0 +1,14 @@
+-- A rule of a datapoint ruleset, from its parts.
+use Rattle.std.specs.Prelude.{ℕ, List, Option, Result, Ok, Err}
+use Rattle.scalar_trees.specs.declared.tree.CheckedExpr.{CheckedExpr}
+use Rattle.typing_rules.specs.declared.stop.Fault.{Fault}
+use Rattle.rule_trees.specs.declared.rules.PointRule.{PointRule}
+use Rattle.rule_trees.specs.declared.rules.RuleError.{RuleError}
+use Rattle.rule_typing.specs.Faults.{first_of}
+
+-- the rule, or the first of its faults
+abbrev pub point_rule : List ℕ → RuleError → Result (Option CheckedExpr) Fault → Result CheckedExpr Fault → Result PointRule Fault
+point_rule name error (Ok condition) (Ok value) = Ok (record { name = name; condition = condition; value = value; error = error })
+point_rule name error (Ok condition) (Err fault) = Err fault
+point_rule name error (Err fault) (Ok value) = Err fault
+point_rule name error (Err fault) (Err other) = Err (first_of fault other)

@@ -1,0 +1,47 @@
+// What is told of a rule.
+ghost use Rattle.std.specs.Prelude.{◌≡◌, decimal, IfOk};
+ghost use Rattle.rule_trees.specs.Rules as meant;
+
+use rule_trees::RuleError;
+use std::alloc::{AllocError, Global};
+use vtl_syntax::ruleset::FaultPart;
+use vtl_values::Word;
+
+fn number_text(alloc: Global, number: u64) -> Result<Word, AllocError>
+    ensures { IfOk result (λ text. text ≡ decimal number) }
+{
+    Ok(Word::from(format!(in alloc; "{number}")?))
+}
+
+/// What the rule at this place is called, or want of memory.
+pub(crate) fn rule_name(
+    alloc: Global,
+    number: u64,
+    stated: &Option<Word>,
+) -> Result<Word, AllocError>
+    ensures { IfOk result (λ name. name ≡ meant.rule_name number stated.now) }
+{
+    match stated {
+        Some(name) => name.copy(),
+        None => number_text(alloc, number),
+    }
+}
+
+fn copy_code(code: &Option<Word>) -> Result<Option<Word>, AllocError>
+    ensures { IfOk result (λ copy. copy ≡ code.now) }
+{
+    match code {
+        Some(code) => Ok(Some(code.copy()?)),
+        None => Ok(None),
+    }
+}
+
+/// What is told where a rule is broken, or want of memory.
+pub(crate) fn error_of(fault: &FaultPart) -> Result<RuleError, AllocError>
+    ensures { IfOk result (λ error. error ≡ meant.error_of fault.now) }
+{
+    Ok(RuleError {
+        code: copy_code(&fault.code)?,
+        level: fault.level,
+    })
+}

@@ -1,0 +1,7 @@
+pub mod Functions
+pub mod Parts
+pub mod Results
+pub mod Windows
+pub mod WellTyped
+pub mod Laws
+pub mod Examples

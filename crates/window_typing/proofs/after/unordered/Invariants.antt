@@ -1,0 +1,9 @@
+use Rattle.std.proofs.Common.{◌≡◌, ◌++◌, map, take}
+use Rattle.vtl_values.specs.declared.kind.Role.TheVariants.{Identifier, Viral}
+use Rattle.clause_trees.specs.Frames.{numbers_of}
+use Rattle.aggregate_trees.specs.Results.{with_numbers}
+use Rattle.window_trees.specs.Results.{made_by}
+use Rattle.window_typing.proofs.after.unordered.Given as goal
+
+abbrev pub invariant-loop-item : goal.invariant-loop-item
+invariant-loop-item l = l.unordered ≡ with_numbers l.components (numbers_of Identifier l.components ++ numbers_of Viral l.components) ++ map made_by (take l.item-index l.items)

@@ -1,0 +1,6 @@
+use Rattle.std.proofs.Common.{◌≡◌, map, take}
+use Rattle.window_trees.specs.Results.{as_item}
+use Rattle.window_typing.proofs.calc.as_items.Given as goal
+
+abbrev pub invariant-loop-item : goal.invariant-loop-item
+invariant-loop-item l = l.plain ≡ map as_item (take l.item-index l.items)

@@ -1,0 +1,45 @@
+-- Operators that work on each measure.
+use Rattle.std.specs.Prelude.{ℕ, Bool, List, [], ◌∷◌, filter_map, slice_get, Option, option_map, Result}
+use Rattle.vtl_values.specs.declared.kind.Kind.{Kind}
+use Rattle.vtl_values.specs.declared.kind.Role.TheVariants.{Measure}
+use Rattle.vtl_values.specs.declared.place.Place.{Place}
+use Rattle.vtl_syntax.specs.declared.expr.Over.{Over}
+use Rattle.typing_rules.specs.declared.stop.Fault.TheVariants.{UnknownComponent, WrongType, WrongStructure, WrongRole, NameTwice, TooManyComponents, BadConstant}
+use Rattle.typing_rules.specs.declared.stop.Refusal.{Refusal}
+use Rattle.clause_trees.specs.declared.frame.Frame.{Frame}
+use Rattle.clause_trees.specs.Clauses.{demands}
+use Rattle.clause_trees.specs.Frames.{numbers_of}
+use Rattle.aggregate_trees.specs.Aggregates.{has_room, names_differ}
+use Rattle.window_trees.specs.declared.analytic.Analytic.{Analytic}
+use Rattle.window_trees.specs.declared.analytic.Analytic.TheVariants as analytic
+use Rattle.window_trees.specs.declared.analytic.AnalyticMeasure.{AnalyticMeasure}
+use Rattle.window_trees.specs.Functions.{window_gives}
+use Rattle.window_trees.specs.Parts.{knows, may_part}
+use Rattle.window_trees.specs.Results.{unordered}
+use Rattle.window_trees.specs.Windows.{takes_all, window_of, with_parts}
+use Rattle.window_typing.specs.declared.measures.OnEach.{OnEach}
+use Rattle.window_typing.specs.declared.measures.OnEach.TheVariants.{Window, Offset}
+
+-- what it gives of a measure of this kind
+abbrev pub gives : OnEach → Kind → Kind
+gives (Window f) kind = window_gives f kind
+gives (Offset f offset) kind = kind
+
+-- the operator of the component with this number
+abbrev pub operator : OnEach → Over → ℕ → Analytic
+operator (Window f) over number = window_of f number over
+operator (Offset f offset) over number = analytic.Offset f number offset
+
+-- what is worked out of it, if there is one
+abbrev pub measure_of : Frame → Over → OnEach → ℕ → Option AnalyticMeasure
+measure_of frame over o number = option_map (λ c. record { name = c.name; kind = gives o c.kind; value = with_parts frame over (operator o over number) }) (slice_get frame.components number)
+
+abbrev pub on_measures : Frame → Over → OnEach → List AnalyticMeasure
+on_measures frame over o = filter_map (measure_of frame over o) (numbers_of Measure frame.components)
+
+-- all that is asked where the measures that are worked out are these
+abbrev pub fits : Place → Frame → Over → List Kind → Bool → Bool → List AnalyticMeasure → Result (Unit {0}) Refusal
+fits place frame over takes stated within items =
+    demands place (
+    (knows frame over, UnknownComponent) ∷ (takes_all takes frame.components, WrongType) ∷ (stated, WrongStructure) ∷ (may_part frame over, WrongRole)
+    ∷ (names_differ (unordered items frame.components), NameTwice) ∷ (has_room (unordered items frame.components), TooManyComponents) ∷ (within, BadConstant) ∷ [])
