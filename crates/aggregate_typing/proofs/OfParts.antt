@@ -4,16 +4,16 @@ use Rattle.vtl_values.specs.declared.place.Place.{Place}
 use Rattle.vtl_values.specs.declared.structure.Component.{Component}
 use Rattle.vtl_syntax.specs.declared.expr.Grouping.{Grouping}
 use Rattle.scalar_trees.specs.declared.tree.CheckedExpr.{CheckedExpr}
-use Rattle.typing_rules.specs.declared.stop.Fault.{Fault}
-use Rattle.typing_rules.specs.declared.stop.Fault.TheVariants.{UnknownComponent, WrongType}
-use Rattle.typing_rules.specs.declared.stop.TypeStop.{TypeStop}
-use Rattle.typing_rules.specs.Steps.{◌>>=◌, Refuses}
+use Rattle.scalar_trees.specs.declared.typing.stop.Fault.{Fault}
+use Rattle.scalar_trees.specs.declared.typing.stop.Fault.TheVariants.{UnknownComponent, WrongType}
+use Rattle.scalar_trees.specs.declared.typing.stop.TypeStop.{TypeStop}
+use Rattle.scalar_trees.specs.typing.Steps.{◌>>=◌, Refuses}
 use Rattle.operator_typing.proofs.Steps.{stops_same}
-use Rattle.clause_trees.specs.Clauses.{demands}
-use Rattle.aggregate_trees.specs.declared.aggregate.AggregateItem.{AggregateItem}
-use Rattle.aggregate_trees.specs.declared.aggregate.CheckedAggregate.{CheckedAggregate}
-use Rattle.aggregate_trees.specs.Aggregates.{Answer, aggregate, are_known, condition_typed, groups_typed, joined, may_group, names_in}
-use Rattle.aggregate_trees.specs.Groups.{grouping_numbers}
+use Rattle.data_set_trees.specs.clauses.Clauses.{demands}
+use Rattle.data_set_trees.specs.declared.aggregates.aggregate.AggregateItem.{AggregateItem}
+use Rattle.data_set_trees.specs.declared.aggregates.aggregate.CheckedAggregate.{CheckedAggregate}
+use Rattle.data_set_trees.specs.aggregates.Aggregates.{Answer, aggregate, are_known, condition_typed, groups_typed, joined, may_group, names_in}
+use Rattle.data_set_trees.specs.aggregates.Groups.{grouping_numbers}
 use Rattle.aggregate_typing.specs.declared.parts.Parts.{Parts}
 use Rattle.aggregate_typing.specs.Parts.{Answers, joined_if, parts_typed}
 use Rattle.aggregate_typing.proofs.Steps.{answers_same, answers_after, ends_there}

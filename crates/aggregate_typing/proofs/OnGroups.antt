@@ -4,14 +4,14 @@ use Rattle.vtl_values.specs.declared.place.Place.{Place}
 use Rattle.vtl_values.specs.declared.structure.Component.{Component}
 use Rattle.vtl_syntax.specs.declared.expr.Groups.{Groups}
 use Rattle.vtl_syntax.specs.declared.expr.Item.{Item}
-use Rattle.typing_rules.specs.declared.scope.Scope.{Scope}
-use Rattle.typing_rules.specs.declared.stop.TypeStop.{TypeStop}
-use Rattle.typing_rules.specs.declared.typed.Typed.{Typed}
-use Rattle.typing_rules.specs.Steps.{◌>>=◌}
-use Rattle.aggregate_trees.specs.declared.aggregate.AggregateItem.{AggregateItem}
-use Rattle.aggregate_trees.specs.declared.aggregate.CheckedAggregate.{CheckedAggregate}
-use Rattle.aggregate_trees.specs.Aggregates.{Answer, aggr_checked, condition_checked, grouping_of, groups_typed, having_of, items_checked, names_in, scope_on}
-use Rattle.aggregate_trees.specs.Groups.{grouping_numbers}
+use Rattle.scalar_trees.specs.declared.typing.scope.Scope.{Scope}
+use Rattle.scalar_trees.specs.declared.typing.stop.TypeStop.{TypeStop}
+use Rattle.scalar_trees.specs.declared.typing.typed.Typed.{Typed}
+use Rattle.scalar_trees.specs.typing.Steps.{◌>>=◌}
+use Rattle.data_set_trees.specs.declared.aggregates.aggregate.AggregateItem.{AggregateItem}
+use Rattle.data_set_trees.specs.declared.aggregates.aggregate.CheckedAggregate.{CheckedAggregate}
+use Rattle.data_set_trees.specs.aggregates.Aggregates.{Answer, aggr_checked, condition_checked, grouping_of, groups_typed, having_of, items_checked, names_in, scope_on}
+use Rattle.data_set_trees.specs.aggregates.Groups.{grouping_numbers}
 use Rattle.aggregate_typing.specs.declared.parts.Parts.{Parts}
 use Rattle.aggregate_typing.specs.Parts.{Answers, parts_typed}
 use Rattle.aggregate_typing.proofs.OfParts.{parts_are}

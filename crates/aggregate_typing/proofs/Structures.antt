@@ -14,20 +14,20 @@ use Rattle.vtl_syntax.specs.declared.words.AggregateFunction.{AggregateFunction}
 use Rattle.vtl_syntax.specs.declared.words.AggregateFunction.TheVariants.{Sum, Avg, Count, Min, Max, Median}
 use Rattle.vtl_syntax.specs.declared.words.ItemRole.{ItemRole}
 use Rattle.vtl_syntax.specs.declared.words.ItemRole.TheVariants as stated
-use Rattle.typing_rules.specs.declared.scope.Basis.TheVariants.{Group}
-use Rattle.typing_rules.specs.declared.scope.Scope.{Scope}
-use Rattle.typing_rules.specs.declared.stop.Refusal.{Refusal}
-use Rattle.typing_rules.specs.declared.typed.Typed.{Typed}
-use Rattle.typing_rules.specs.Scalars.{typed}
-use Rattle.typing_rules.specs.Steps.{◌>>=◌}
-use Rattle.clause_trees.specs.Clauses.{role_of}
-use Rattle.clause_trees.specs.Frames.{numbers_of}
-use Rattle.clause_trees.specs.WellTyped.{may_be_made}
-use Rattle.aggregate_trees.specs.declared.aggregate.AggregateItem.{AggregateItem}
-use Rattle.aggregate_trees.specs.declared.aggregate.CheckedAggregate.{CheckedAggregate}
-use Rattle.aggregate_trees.specs.Aggregates.{aggr_checked, aggregate_checked, aggregate_of, condition_checked, grouping_of, groups_typed, having_of, item_typed, items_checked, items_of, points_counted, scope_on, takes_all}
-use Rattle.aggregate_trees.specs.Results.{grouped}
-use Rattle.aggregate_trees.proofs.Grouped.{gives_structures}
+use Rattle.scalar_trees.specs.declared.typing.scope.Basis.TheVariants.{Group}
+use Rattle.scalar_trees.specs.declared.typing.scope.Scope.{Scope}
+use Rattle.scalar_trees.specs.declared.typing.stop.Refusal.{Refusal}
+use Rattle.scalar_trees.specs.declared.typing.typed.Typed.{Typed}
+use Rattle.scalar_trees.specs.typing.Scalars.{typed}
+use Rattle.scalar_trees.specs.typing.Steps.{◌>>=◌}
+use Rattle.data_set_trees.specs.clauses.Clauses.{role_of}
+use Rattle.data_set_trees.specs.clauses.Frames.{numbers_of}
+use Rattle.data_set_trees.specs.clauses.WellTyped.{may_be_made}
+use Rattle.data_set_trees.specs.declared.aggregates.aggregate.AggregateItem.{AggregateItem}
+use Rattle.data_set_trees.specs.declared.aggregates.aggregate.CheckedAggregate.{CheckedAggregate}
+use Rattle.data_set_trees.specs.aggregates.Aggregates.{aggr_checked, aggregate_checked, aggregate_of, condition_checked, grouping_of, groups_typed, having_of, item_typed, items_checked, items_of, points_counted, scope_on, takes_all}
+use Rattle.data_set_trees.specs.aggregates.Results.{grouped}
+use Rattle.data_set_trees.proofs.aggregates.Grouped.{gives_structures}
 
 -- a measure or an attribute
 abbrev Plain : AggregateItem → Type 0

@@ -5,16 +5,16 @@ use Rattle.std.specs.Option.{option_map_or}
 use Rattle.vtl_values.specs.declared.kind.Role.TheVariants.{Identifier}
 use Rattle.vtl_values.specs.declared.place.Place.{Place}
 use Rattle.vtl_values.specs.declared.structure.Component.{Component}
-use Rattle.typing_rules.specs.declared.stop.Fault.TheVariants.{UnknownComponent, WrongType, WrongRole, NameTwice, TooManyComponents}
-use Rattle.typing_rules.specs.declared.stop.Refusal.{Refusal}
-use Rattle.typing_rules.specs.declared.stop.TypeStop.{TypeStop}
-use Rattle.typing_rules.specs.Steps.{◌>>=◌, Refuses}
-use Rattle.clause_trees.specs.declared.frame.Frame.{Frame}
-use Rattle.clause_trees.specs.Clauses.{bare_number_of, demands, passes_at}
-use Rattle.clause_trees.specs.Frames.{has_role}
-use Rattle.aggregate_trees.specs.declared.aggregate.CheckedAggregate.{CheckedAggregate}
-use Rattle.aggregate_trees.specs.Aggregates.{Answer, aggregate, are_known, condition_typed, has_room, joined, names_differ}
-use Rattle.aggregate_trees.specs.Results.{unordered}
+use Rattle.scalar_trees.specs.declared.typing.stop.Fault.TheVariants.{UnknownComponent, WrongType, WrongRole, NameTwice, TooManyComponents}
+use Rattle.scalar_trees.specs.declared.typing.stop.Refusal.{Refusal}
+use Rattle.scalar_trees.specs.declared.typing.stop.TypeStop.{TypeStop}
+use Rattle.scalar_trees.specs.typing.Steps.{◌>>=◌, Refuses}
+use Rattle.data_set_trees.specs.declared.clauses.frame.Frame.{Frame}
+use Rattle.data_set_trees.specs.clauses.Clauses.{bare_number_of, demands, passes_at}
+use Rattle.data_set_trees.specs.clauses.Frames.{has_role}
+use Rattle.data_set_trees.specs.declared.aggregates.aggregate.CheckedAggregate.{CheckedAggregate}
+use Rattle.data_set_trees.specs.aggregates.Aggregates.{Answer, aggregate, are_known, condition_typed, has_room, joined, names_differ}
+use Rattle.data_set_trees.specs.aggregates.Results.{unordered}
 use Rattle.aggregate_typing.specs.declared.parts.Parts.{Parts}
 
 -- what is meant, or the first fault, or want of memory

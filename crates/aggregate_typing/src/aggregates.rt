@@ -1,18 +1,18 @@
 // Aggregates on a data set, and the clause `aggr`.
 ghost use Rattle.std.specs.Prelude.{◌≡◌, Ok, IfOk, IfErr};
 ghost use Rattle.vtl_values.specs.Structures.{IsStructure};
-ghost use Rattle.typing_rules.specs.Steps.{Refuses};
-ghost use Rattle.aggregate_trees.specs.Aggregates as meant;
-ghost use Rattle.aggregate_trees.specs.Results.{grouped};
+ghost use Rattle.scalar_trees.specs.typing.Steps.{Refuses};
+ghost use Rattle.data_set_trees.specs.aggregates.Aggregates as meant;
+ghost use Rattle.data_set_trees.specs.aggregates.Results.{grouped};
 ghost use Rattle.aggregate_typing.specs.Parts.{Answers};
 
 use crate::groups::{condition_checked, grouping_numbers, names_in, scope_of_groups};
 use crate::items::{items_checked, items_of, takes_all};
 use crate::parts::{Parts, parts_typed};
-use aggregate_trees::CheckedAggregate;
+use data_set_trees::aggregates::CheckedAggregate;
+use scalar_trees::typing::TypeStop;
 use sqlite_items::Boxed;
 use std::alloc::Global;
-use typing_rules::TypeStop;
 use vtl_syntax::words::AggregateFunction;
 use vtl_syntax::{Groups, Item};
 use vtl_values::{Component, Place};

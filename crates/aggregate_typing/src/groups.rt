@@ -1,17 +1,17 @@
 // Groups: by what they are formed, and what may be named of one.
 ghost use Rattle.std.specs.Prelude.{◌≡◌, IfOk};
 ghost use Rattle.std.specs.Option.{option_map};
-ghost use Rattle.clause_trees.specs.Frames.{numbers_from};
-ghost use Rattle.aggregate_trees.specs.Aggregates as aggregates;
-ghost use Rattle.aggregate_trees.specs.Groups as meant;
+ghost use Rattle.data_set_trees.specs.clauses.Frames.{numbers_from};
+ghost use Rattle.data_set_trees.specs.aggregates.Aggregates as aggregates;
+ghost use Rattle.data_set_trees.specs.aggregates.Groups as meant;
 ghost use Rattle.aggregate_typing.specs.Parts.{Answers};
 
 use clause_typing::{has_role, is_among};
 use component_typing::check_operand;
 use operator_typing::scope_of;
+use scalar_trees::typing::{Basis, Column, Scope, TypeStop, Typed};
 use sqlite_items::{Boxed, Items};
 use std::alloc::{AllocError, Global};
-use typing_rules::{Basis, Column, Scope, TypeStop, Typed};
 use vtl_syntax::words::GroupWord;
 use vtl_syntax::{Expr, Groups};
 use vtl_values::{Component, Role, Word};

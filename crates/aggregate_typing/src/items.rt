@@ -1,17 +1,17 @@
 // What is worked out on a group.
 ghost use Rattle.std.specs.Prelude.{◌≡◌, filter_map, slice_get, IfOk};
 ghost use Rattle.std.specs.Option.{option_map};
-ghost use Rattle.aggregate_trees.specs.Aggregates as meant;
+ghost use Rattle.data_set_trees.specs.aggregates.Aggregates as meant;
 ghost use Rattle.aggregate_typing.specs.Parts.{Answers};
 
-use aggregate_trees::AggregateItem;
 use clause_typing::{has_role, role_of};
 use component_typing::check_operand;
+use data_set_trees::aggregates::AggregateItem;
 use result_components::{int_var, numbers_of};
+use scalar_trees::typing::{Basis, Scope, TypeStop, Typed};
 use scalar_trees::{CheckedExpr, aggregate_gives, aggregate_takes, agreed};
 use sqlite_items::Items;
 use std::alloc::{AllocError, Global};
-use typing_rules::{Basis, Scope, TypeStop, Typed};
 use vtl_syntax::Item;
 use vtl_syntax::words::{AggregateFunction, ItemRole};
 use vtl_values::{Component, Kind, Role, Word};

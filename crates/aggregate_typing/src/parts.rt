@@ -1,20 +1,20 @@
 // What groups, items and a condition come to together.
 ghost use Rattle.std.specs.Prelude.{◌≡◌};
-ghost use Rattle.aggregate_trees.specs.Aggregates as aggregates;
+ghost use Rattle.data_set_trees.specs.aggregates.Aggregates as aggregates;
 ghost use Rattle.aggregate_typing.specs.Parts as meant;
 ghost use Rattle.aggregate_typing.specs.Parts.{Answers};
-ghost use Rattle.clause_trees.specs.declared.frame.Frame.{Frame};
+ghost use Rattle.data_set_trees.specs.declared.clauses.frame.Frame.{Frame};
 
 use crate::results::unordered;
-use aggregate_trees::{AggregateItem, CheckedAggregate};
-use clause_trees::Frame;
 use clause_typing::{bare_number_of, demands, frame_of};
+use data_set_trees::aggregates::{AggregateItem, CheckedAggregate};
+use data_set_trees::clauses::Frame;
 use operator_typing::wanted;
 use result_components::{are_known, has_room, is_identifier, names_differ};
 use scalar_trees::CheckedExpr;
+use scalar_trees::typing::{Fault, TypeStop, Typed};
 use sqlite_items::Items;
 use std::alloc::Global;
-use typing_rules::{Fault, TypeStop, Typed};
 use vtl_values::{Component, Kind, Place, Word};
 
 /// The identifiers by which groups are formed, what is worked out on a group, and the condition, not yet seen to be a

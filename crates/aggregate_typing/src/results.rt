@@ -1,11 +1,11 @@
 // Which components aggregates give.
 ghost use Rattle.std.specs.Prelude.{◌≡◌, ◌++◌, map, IfOk};
 ghost use Rattle.vtl_values.specs.declared.kind.Role.TheVariants.{Viral};
-ghost use Rattle.clause_trees.specs.Frames.{numbers_of};
-ghost use Rattle.aggregate_trees.specs.Results as meant;
+ghost use Rattle.data_set_trees.specs.clauses.Frames.{numbers_of};
+ghost use Rattle.data_set_trees.specs.aggregates.Results as meant;
 
-use aggregate_trees::{AggregateItem, CheckedAggregate};
 use clause_typing::made;
+use data_set_trees::aggregates::{AggregateItem, CheckedAggregate};
 use result_components::{by_role, numbers_of, with_numbers};
 use sqlite_items::Items;
 use std::alloc::{AllocError, Global};

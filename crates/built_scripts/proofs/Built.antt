@@ -4,11 +4,11 @@ use Rattle.std.specs.List.{All, list_all}
 use Rattle.std.proofs.lemmas.List.Elements.{All-nil, All-cons, All-head, All-tail}
 use Rattle.vtl_values.specs.declared.structure.Component.{Component}
 use Rattle.data_set_trees.specs.declared.tree.DataSetTree.{DataSetTree}
-use Rattle.checked_trees.specs.declared.script.CheckedStatement.{CheckedStatement}
-use Rattle.checked_trees.specs.Operators.{IsTyped, TakesOperands}
-use Rattle.checked_trees.specs.Expressions.{Expression, Expressions, Named, Applied, none, more, expression_of, expressions}
-use Rattle.checked_trees.specs.Scripts.{FitsStatement, IsChecked, IsTypedScript, Script, structure_of_source}
-use Rattle.checked_trees.specs.Typing.{Fits, AllFit}
+use Rattle.data_set_trees.specs.declared.checked.script.CheckedStatement.{CheckedStatement}
+use Rattle.data_set_trees.specs.checked.Operators.{IsTyped, TakesOperands}
+use Rattle.data_set_trees.specs.checked.Expressions.{Expression, Expressions, Named, Applied, none, more, expression_of, expressions}
+use Rattle.data_set_trees.specs.checked.Scripts.{FitsStatement, IsChecked, IsTypedScript, Script, structure_of_source}
+use Rattle.data_set_trees.specs.checked.Typing.{Fits, AllFit}
 use Rattle.built_scripts.specs.Built.{each_all_built, is_tree_built, AreStructured, EachStructured, IsStatementStructured, IsTreeStructured}
 
 -- ---- operands

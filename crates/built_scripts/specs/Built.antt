@@ -5,9 +5,9 @@ use Rattle.vtl_values.specs.Structures.{IsStructure}
 use Rattle.data_set_trees.specs.declared.tree.DataSetOperator.{DataSetOperator}
 use Rattle.data_set_trees.specs.declared.tree.DataSetOperator.TheVariants.{Clause, Pair, Choice, ExistsIn, Set, Join, InJoin, Aggregate, Window, WindowInJoin, Time, Check, Datapoint, Hierarchy}
 use Rattle.data_set_trees.specs.declared.tree.DataSetTree.{DataSetTree}
-use Rattle.checked_trees.specs.declared.script.CheckedStatement.{CheckedStatement}
-use Rattle.checked_trees.specs.Expressions.{Expression, Expressions, Named, Applied, none, more, expression_of}
-use Rattle.checked_trees.specs.Scripts.{Script, IsChecked}
+use Rattle.data_set_trees.specs.declared.checked.script.CheckedStatement.{CheckedStatement}
+use Rattle.data_set_trees.specs.checked.Expressions.{Expression, Expressions, Named, Applied, none, more, expression_of}
+use Rattle.data_set_trees.specs.checked.Scripts.{Script, IsChecked}
 
 -- An operator is built where there is a rule for it.
 abbrev pub is_built : DataSetOperator → Bool

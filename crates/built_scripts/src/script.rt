@@ -2,7 +2,7 @@
 ghost use Rattle.std.specs.Prelude.{◌≡◌, true};
 ghost use Rattle.std.specs.List.{list_all};
 
-use checked_trees::{CheckedStatement, TypedScript};
+use data_set_trees::checked::{CheckedStatement, TypedScript};
 use std::marker::Model;
 use vtl_values::Structures;
 
@@ -13,7 +13,7 @@ pub struct CheckedScript {
 }
 
 impl Model for CheckedScript {
-    ghost use Rattle.checked_trees.specs.Scripts.{Script, script_coded};
+    ghost use Rattle.data_set_trees.specs.checked.Scripts.{Script, script_coded};
     ghost use Rattle.built_scripts.specs.Built.{IsRunnable};
 
     ghost Value = { Script };
@@ -26,7 +26,7 @@ impl Model for CheckedScript {
 }
 
 impl CheckedScript {
-    ghost use Rattle.checked_trees.specs.Scripts.{IsChecked};
+    ghost use Rattle.data_set_trees.specs.checked.Scripts.{IsChecked};
     ghost use Rattle.built_scripts.specs.Built.{is_statement_built, IsRunnable};
 
     /// The typed script, as one that may be run.

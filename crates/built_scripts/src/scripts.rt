@@ -1,12 +1,12 @@
 // Which scripts may be run.
 ghost use Rattle.std.specs.Prelude.{◌≡◌, true, Some, None, if◌then◌else◌};
 ghost use Rattle.std.specs.List.{All, list_all};
-ghost use Rattle.checked_trees.specs.Expressions.{expression_of_node};
+ghost use Rattle.data_set_trees.specs.checked.Expressions.{expression_of_node};
 ghost use Rattle.built_scripts.specs.Built.{all_built, is_script_built, is_statement_built, is_tree_built, AreStructured, IsStatementStructured, IsTreeStructured};
 
 use crate::operators::{have_structures, is_built};
 use crate::script::CheckedScript;
-use checked_trees::{CheckedStatement, TypedScript};
+use data_set_trees::checked::{CheckedStatement, TypedScript};
 use data_set_trees::{DataSetNode, DataSetTree};
 
 /// Whether all operators of a tree are built.

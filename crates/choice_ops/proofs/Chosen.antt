@@ -3,12 +3,12 @@ use Rattle.std.proofs.Common.{◌≡◌, ◌≤◌, List, ◌∷◌, length, Opt
 use Rattle.std.specs.Prelude.{is_some}
 use Rattle.vtl_values.specs.declared.structure.Component.{Component}
 use Rattle.data_set_trees.specs.declared.tree.DataSetOperator.{DataSetOperator}
-use Rattle.checked_trees.specs.Choices.{branches}
-use Rattle.checked_trees.specs.Operators as checked
-use Rattle.checked_trees.specs.Operators.{an_operator, Operator, IsTyped, TakesOperands}
+use Rattle.data_set_trees.specs.checked.Choices.{branches}
+use Rattle.data_set_trees.specs.checked.Operators as checked
+use Rattle.data_set_trees.specs.checked.Operators.{an_operator, Operator, IsTyped, TakesOperands}
 use Rattle.operator_meaning.specs.Operators.{meaning_of}
-use Rattle.choice_meaning.specs.Choices.{choice_meaning}
-use Rattle.choice_meaning.specs.Typed.{IsTypedChoice}
+use Rattle.operator_meaning.specs.choices.Choices.{choice_meaning}
+use Rattle.operator_meaning.specs.choices.Typed.{IsTypedChoice}
 use Rattle.choice_ops.specs.Plans.{choice_in, fails_in, holds_in, measures_in}
 use Rattle.choice_ops.specs.Rules.{IsChoice}
 

@@ -31,12 +31,12 @@ use Rattle.structured_sets.specs.Fitting as fitting
 use Rattle.structured_sets.specs.Fitting.{FitsIdentifier, IsPointOf, IsSetOf, IsBoundedSetOf}
 use Rattle.clause_meaning.proofs.ByRole.{of-identifiers}
 use Rattle.clause_meaning.proofs.Covered.{point_by_point-covered}
-use Rattle.clause_trees.specs.Frames.{has_role}
+use Rattle.data_set_trees.specs.clauses.Frames.{has_role}
 use Rattle.vtl_values.specs.declared.kind.Role.TheVariants.{Identifier}
 use Rattle.std.proofs.lemmas.Slice.Zip.{AllZip-long}
 use Rattle.std.proofs.Math.Nat.{mul-le-mul_right}
 use Rattle.data_set_trees.specs.Components.{identifiers}
-use Rattle.checked_trees.specs.Operators.{Operator, IsTyped}
+use Rattle.data_set_trees.specs.checked.Operators.{Operator, IsTyped}
 use Rattle.operator_meaning.specs.Operators.{meaning_of, AreOperands}
 use Rattle.held_index.specs.Drafts.{SetDraft}
 use Rattle.held_index.specs.Holdings.{AllPlain, Holding, contents}
@@ -45,12 +45,12 @@ use Rattle.held_index.specs.Rules.{SetOutcome, answer_of, after_news, AreAsked, 
 use Rattle.held_index.specs.declared.stop.Stop.{Stop}
 use Rattle.held_index.proofs.Rules.{IsRightAnswer-finished}
 use Rattle.held_index.proofs.WantLemmas.{all_whole-plain, contents-all_whole}
-use Rattle.pair_meaning.proofs.Names.{picked-all}
-use Rattle.pair_meaning.proofs.Keys.{names, key-picked, names-apart}
-use Rattle.pair_meaning.proofs.Paired.{listed-map}
-use Rattle.choice_meaning.specs.Choices.{ChoiceOn, set_at, condition, chosen_number, chosen_point, condition_key, operand_key, point_at, is_true_in, chosen_values, is_beyond, in_range, made_of, choice_working, choice_meaning}
-use Rattle.choice_meaning.specs.Typed.{IsTypedChoice}
-use Rattle.choice_meaning.proofs.Keys.{key-back, condition-structure}
+use Rattle.operator_meaning.proofs.pairs.Names.{picked-all}
+use Rattle.operator_meaning.proofs.pairs.Keys.{names, key-picked, names-apart}
+use Rattle.operator_meaning.proofs.pairs.Paired.{listed-map}
+use Rattle.operator_meaning.specs.choices.Choices.{ChoiceOn, set_at, condition, chosen_number, chosen_point, condition_key, operand_key, point_at, is_true_in, chosen_values, is_beyond, in_range, made_of, choice_working, choice_meaning}
+use Rattle.operator_meaning.specs.choices.Typed.{IsTypedChoice}
+use Rattle.operator_meaning.proofs.choices.Keys.{key-back, condition-structure}
 use Rattle.choice_ops.specs.Noted.{change_at, Sees, noted_at, keys_from, IsNoted}
 use Rattle.choice_ops.specs.Plans.{choice_in}
 use Rattle.choice_ops.specs.Rules.{wanted_of, IsChoice}

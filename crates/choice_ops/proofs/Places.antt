@@ -12,16 +12,16 @@ use Rattle.vtl_values.specs.declared.value.Value.{Value}
 use Rattle.scalar_meaning.specs.Logic.{holds}
 use Rattle.scalar_meaning.specs.Rows.{point_row}
 use Rattle.structured_sets.proofs.Lists.{position-cons}
-use Rattle.clause_trees.specs.Frames.{has_role}
+use Rattle.data_set_trees.specs.clauses.Frames.{has_role}
 use Rattle.clause_meaning.specs.Clauses.{values_at, values_on}
 use Rattle.data_set_trees.specs.declared.tree.Branch.{Branch}
 use Rattle.data_set_trees.specs.declared.tree.Branch.TheVariants as branch
 use Rattle.data_set_trees.specs.declared.tree.ChoiceMeasure.{ChoiceMeasure}
 use Rattle.data_set_trees.specs.Components.{identifiers, virals, has_name}
-use Rattle.checked_trees.specs.Choices.{is_branch, branches}
-use Rattle.checked_trees.specs.Operators as operators
-use Rattle.pair_meaning.specs.Pairs.{value_where, key_between, codes_of, one_or_both, viral_value}
-use Rattle.choice_meaning.specs.Choices.{ChoiceOn, choice_on, structure_at, condition, chosen_number, chosen_structure, condition_key, operand_key, is_true_in, value_in, viral_values, chosen_values}
+use Rattle.data_set_trees.specs.checked.Choices.{is_branch, branches}
+use Rattle.data_set_trees.specs.checked.Operators as operators
+use Rattle.operator_meaning.specs.pairs.Pairs.{value_where, key_between, codes_of, one_or_both, viral_value}
+use Rattle.operator_meaning.specs.choices.Choices.{ChoiceOn, choice_on, structure_at, condition, chosen_number, chosen_structure, condition_key, operand_key, is_true_in, value_in, viral_values, chosen_values}
 use Rattle.choice_ops.specs.Plans.{numbers_between, key_numbers, places_of, chosen_place, value_with, value_of_places}
 use Rattle.choice_ops.specs.declared.plan.KeyNumbers.{KeyNumbers}
 use Rattle.choice_ops.specs.declared.values.ViralPlaces.{ViralPlaces}

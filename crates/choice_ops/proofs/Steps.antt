@@ -11,7 +11,7 @@ use Rattle.scalar_eval.specs.declared.stop.EvalStop.{EvalStop}
 use Rattle.scalar_eval.specs.declared.stop.EvalStop.TheVariants.{Range, Memory}
 use Rattle.data_set_trees.specs.declared.tree.ChoiceMeasure.{ChoiceMeasure}
 use Rattle.clause_meaning.specs.Clauses.{values_on}
-use Rattle.choice_meaning.specs.Choices.{value_in}
+use Rattle.operator_meaning.specs.choices.Choices.{value_in}
 use Rattle.held_index.specs.Holdings.{look_steps}
 
 pub few_steps : {A : Type 0} (o : Option A) → look_steps o ≤ 2

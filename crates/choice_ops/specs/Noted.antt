@@ -9,7 +9,7 @@ use Rattle.point_sets.specs.DataSets.{DataSet}
 use Rattle.point_sets.specs.Changes.{Changes, values_eq}
 use Rattle.held_index.specs.Drafts.{SetDraft}
 use Rattle.held_index.specs.Holdings.{Holding, contents}
-use Rattle.choice_meaning.specs.Choices.{ChoiceOn, set_at, condition_key, choice_working}
+use Rattle.operator_meaning.specs.choices.Choices.{ChoiceOn, set_at, condition_key, choice_working}
 
 -- the change of a key in the news of the operand with this number
 abbrev pub change_at : List Changes → ℕ → List Value → Option (Pair (List Value))

@@ -9,7 +9,7 @@ use Rattle.vtl_values.specs.declared.structure.Component.{Component}
 use Rattle.vtl_values.specs.declared.value.Value.{Value}
 use Rattle.point_sets.specs.declared.point.Point.{Point}
 use Rattle.point_sets.specs.DataSets.{entry_of}
-use Rattle.clause_trees.specs.Frames.{has_role}
+use Rattle.data_set_trees.specs.clauses.Frames.{has_role}
 use Rattle.data_set_trees.specs.declared.tree.Branch.{Branch}
 use Rattle.data_set_trees.specs.declared.tree.Branch.TheVariants as branch
 use Rattle.data_set_trees.specs.declared.tree.ChoiceMeasure.{ChoiceMeasure}
@@ -17,12 +17,12 @@ use Rattle.data_set_trees.specs.declared.tree.DataSetOperator.{DataSetOperator}
 use Rattle.data_set_trees.specs.declared.tree.DataSetOperator.TheVariants.{Choice}
 use Rattle.data_set_trees.specs.Components as components
 use Rattle.data_set_trees.specs.Components.{identifiers, has_name}
-use Rattle.checked_trees.specs.Operators.{Operator}
+use Rattle.data_set_trees.specs.checked.Operators.{Operator}
 use Rattle.clause_eval.specs.declared.evaluation.Evaluation.{Evaluation}
 use Rattle.clause_eval.specs.Evaluations.{IsEvaluation}
-use Rattle.pair_meaning.specs.Pairs.{codes_of, one_or_both}
-use Rattle.choice_meaning.specs.Choices.{ChoiceOn, choice_on, condition, chosen_structure, chosen_values}
-use Rattle.choice_meaning.specs.Typed.{IsTypedChoice}
+use Rattle.operator_meaning.specs.pairs.Pairs.{codes_of, one_or_both}
+use Rattle.operator_meaning.specs.choices.Choices.{ChoiceOn, choice_on, condition, chosen_structure, chosen_values}
+use Rattle.operator_meaning.specs.choices.Typed.{IsTypedChoice}
 use Rattle.choice_ops.specs.declared.plan.KeyNumbers.{KeyNumbers}
 use Rattle.choice_ops.specs.declared.values.ViralPlaces.{ViralPlaces}
 

@@ -6,7 +6,7 @@ use Rattle.data_set_trees.specs.declared.tree.Branch.{Branch}
 use Rattle.data_set_trees.specs.declared.tree.ChoiceMeasure.{ChoiceMeasure}
 use Rattle.data_set_trees.specs.declared.tree.DataSetOperator.{DataSetOperator}
 use Rattle.data_set_trees.specs.declared.tree.DataSetOperator.TheVariants.{Choice}
-use Rattle.checked_trees.specs.Operators.{Operator, IsTyped}
+use Rattle.data_set_trees.specs.checked.Operators.{Operator, IsTyped}
 
 -- a conditional
 pub record IsChoice (operator : DataSetOperator) : Type 0 where

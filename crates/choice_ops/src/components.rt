@@ -1,7 +1,7 @@
 // Components by their names.
 ghost use Rattle.std.specs.Prelude.{◌≡◌, ◌&&◌, map, position, IfOk};
 ghost use Rattle.vtl_values.specs.declared.kind.Role.TheVariants.{Identifier, Measure, Viral};
-ghost use Rattle.clause_trees.specs.Frames as frames;
+ghost use Rattle.data_set_trees.specs.clauses.Frames as frames;
 ghost use Rattle.data_set_trees.specs.Components as meant;
 ghost use Rattle.choice_ops.specs.Plans as plans;
 

@@ -7,7 +7,7 @@ ghost use Rattle.data_model.specs.Deltas.{after};
 ghost use Rattle.point_sets.specs.DataSets.{HasKey};
 ghost use Rattle.point_sets.specs.Changes.{values_of};
 ghost use Rattle.held_index.specs.Holdings.{AllPlain, contents};
-ghost use Rattle.choice_meaning.specs.Choices.{set_at};
+ghost use Rattle.operator_meaning.specs.choices.Choices.{set_at};
 ghost use Rattle.choice_ops.specs.Noted.{change_at};
 
 use data_model::steps::Steps;

@@ -10,7 +10,7 @@ ghost use Rattle.point_sets.specs.Changes.{values_eq, values_of};
 ghost use Rattle.held_index.specs.Reach.{changes_in};
 ghost use Rattle.held_index.specs.Holdings.{AllPlain, contents};
 ghost use Rattle.clause_eval.specs.Evaluations as found;
-ghost use Rattle.choice_meaning.specs.Choices.{set_at, chosen_number, condition_key, operand_key, choice_working};
+ghost use Rattle.operator_meaning.specs.choices.Choices.{set_at, chosen_number, condition_key, operand_key, choice_working};
 ghost use Rattle.choice_ops.specs.Plans.{choice_in};
 ghost use Rattle.choice_ops.specs.Noted.{Sees, change_at, noted_at, keys_from, IsNoted};
 

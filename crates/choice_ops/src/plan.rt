@@ -8,9 +8,9 @@ ghost use Rattle.scalar_meaning.specs.Logic as logic;
 ghost use Rattle.scalar_meaning.specs.Rows.{point_row};
 ghost use Rattle.clause_eval.specs.Evaluations.{IsEvaluation};
 ghost use Rattle.clause_meaning.specs.Clauses.{values_on};
-ghost use Rattle.checked_trees.specs.Operators.{an_operator};
-ghost use Rattle.choice_meaning.specs.Choices as meant;
-ghost use Rattle.choice_meaning.specs.Typed.{IsTypedChoice};
+ghost use Rattle.data_set_trees.specs.checked.Operators.{an_operator};
+ghost use Rattle.operator_meaning.specs.choices.Choices as meant;
+ghost use Rattle.operator_meaning.specs.choices.Typed.{IsTypedChoice};
 ghost use Rattle.choice_ops.specs.Plans as plans;
 
 use crate::components::{all_key_numbers, all_places, measure_number};
@@ -47,7 +47,7 @@ pub(crate) struct ChoicePlan {
 }
 
 impl Model for ChoicePlan {
-    ghost use Rattle.checked_trees.specs.Operators.{an_operator, operator_coded, Operator};
+    ghost use Rattle.data_set_trees.specs.checked.Operators.{an_operator, operator_coded, Operator};
     ghost use Rattle.choice_ops.specs.Plans.{choice_in, IsPlan};
 
     ghost Value = { Operator };

@@ -1,6 +1,6 @@
 // The rule of a conditional on data sets.
 ghost use Rattle.std.specs.Prelude.{◌≡◌, IfOk};
-ghost use Rattle.checked_trees.specs.Operators.{an_operator, IsTyped};
+ghost use Rattle.data_set_trees.specs.checked.Operators.{an_operator, IsTyped};
 ghost use Rattle.choice_ops.specs.Rules.{IsChoice};
 
 use crate::notes::noted;
@@ -26,7 +26,7 @@ pub struct ChoiceRule {
 }
 
 impl Model for ChoiceRule {
-    ghost use Rattle.checked_trees.specs.Operators.{operator_coded, Operator};
+    ghost use Rattle.data_set_trees.specs.checked.Operators.{operator_coded, Operator};
     ghost use Rattle.choice_ops.specs.Rules.{IsRule};
 
     ghost Value = { Operator };

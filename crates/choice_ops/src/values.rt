@@ -7,8 +7,8 @@ ghost use Rattle.viral_attributes.specs.Combination as combination;
 ghost use Rattle.point_sets.specs.DataSets.{entry_of};
 ghost use Rattle.scalar_eval.specs.Stops.{IsMeant};
 ghost use Rattle.clause_meaning.specs.Clauses.{values_on};
-ghost use Rattle.pair_meaning.specs.Pairs.{codes_of};
-ghost use Rattle.choice_meaning.specs.Choices.{value_in};
+ghost use Rattle.operator_meaning.specs.pairs.Pairs.{codes_of};
+ghost use Rattle.operator_meaning.specs.choices.Choices.{value_in};
 ghost use Rattle.choice_ops.specs.Plans as plans;
 
 use data_set_trees::ChoiceMeasure;

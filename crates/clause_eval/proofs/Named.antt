@@ -12,11 +12,11 @@ use Rattle.vtl_values.specs.declared.value.Value.TheVariants.{Text}
 use Rattle.vtl_values.specs.Order.{value_cmp}
 use Rattle.vtl_values.proofs.Values.{value_cmp-IsTotalOrder, value_cmp-IsAntisymmetric}
 use Rattle.data_model.proofs.MapLemmas.{equal, tied_to_itself}
-use Rattle.clause_trees.specs.declared.frame.Frame.{Frame}
+use Rattle.data_set_trees.specs.declared.clauses.frame.Frame.{Frame}
 use Rattle.data_model.specs.Maps.{if_passes}
 use Rattle.scalar_meaning.specs.Comparisons.{is_null}
-use Rattle.clause_trees.specs.Frames.{has_role, numbers_of}
-use Rattle.clause_trees.proofs.Parts.{pairs_head, pairs_tail}
+use Rattle.data_set_trees.specs.clauses.Frames.{has_role, numbers_of}
+use Rattle.data_set_trees.proofs.clauses.Parts.{pairs_head, pairs_tail}
 use Rattle.clause_meaning.specs.Clauses.{is_measure_called, measure_point, values_at}
 use Rattle.clause_eval.specs.Measures.{IsMeasureAt}
 

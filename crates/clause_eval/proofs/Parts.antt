@@ -14,13 +14,13 @@ use Rattle.vtl_values.proofs.Values.{key_cmp-IsTotalOrder, key_cmp-IsAntisymmetr
 use Rattle.data_model.specs.Maps.{is_listed}
 use Rattle.data_model.proofs.MapLemmas.{tied, tied_to_itself, is_listed-keys, get-unlisted}
 use Rattle.data_model.proofs.DeltaLemmas.{contradicted}
-use Rattle.typing_rules.proofs.Sound.{left, right}
+use Rattle.scalar_trees.proofs.typing.Sound.{left, right}
 use Rattle.point_sets.specs.DataSets.{DataSet}
 use Rattle.structured_sets.specs.Fitting.{identifiers, FitsIdentifier, IsPointOf, IsSetOf}
-use Rattle.clause_trees.specs.declared.frame.Frame.{Frame}
-use Rattle.clause_trees.specs.declared.clause.CheckedClause.{CheckedClause}
-use Rattle.clause_trees.specs.declared.clause.CheckedClause.TheVariants as clause
-use Rattle.clause_trees.specs.declared.clause.CheckedSubItem.{CheckedSubItem}
+use Rattle.data_set_trees.specs.declared.clauses.frame.Frame.{Frame}
+use Rattle.data_set_trees.specs.declared.clauses.clause.CheckedClause.{CheckedClause}
+use Rattle.data_set_trees.specs.declared.clauses.clause.CheckedClause.TheVariants as clause
+use Rattle.data_set_trees.specs.declared.clauses.clause.CheckedSubItem.{CheckedSubItem}
 use Rattle.clause_meaning.specs.Ordered.{HasIdentifiersFirst}
 use Rattle.clause_meaning.specs.Clauses.{has_values, key_left, comes_to, measures, key_with_name, measure_point, without_last, unpivoted_at, working_of}
 use Rattle.clause_meaning.proofs.Lists.{found, last-pushed, before-pushed}

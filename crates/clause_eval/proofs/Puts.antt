@@ -9,8 +9,8 @@ use Rattle.scalar_meaning.specs.Scalars.{meaning}
 use Rattle.scalar_eval.specs.Stops.{Stops}
 use Rattle.scalar_eval.specs.declared.stop.EvalStop.{EvalStop}
 use Rattle.scalar_eval.specs.declared.stop.EvalStop.TheVariants.{Range, Memory}
-use Rattle.clause_trees.specs.declared.clause.CheckedItem.{CheckedItem}
-use Rattle.clause_trees.specs.declared.clause.CheckedMeasure.{CheckedMeasure}
+use Rattle.data_set_trees.specs.declared.clauses.clause.CheckedItem.{CheckedItem}
+use Rattle.data_set_trees.specs.declared.clauses.clause.CheckedMeasure.{CheckedMeasure}
 use Rattle.clause_meaning.specs.Clauses.{item_values, worked_values, put_value, put_values}
 
 -- a point's values with those of the items in their places, none where an item is out of range

@@ -6,13 +6,13 @@ use Rattle.vtl_values.specs.declared.kind.Role.{Role}
 use Rattle.vtl_values.specs.declared.kind.Role.TheVariants.{Measure, Attribute, Viral}
 use Rattle.vtl_values.specs.declared.kind.Kind.{Kind}
 use Rattle.vtl_values.specs.declared.structure.Component.{Component}
-use Rattle.clause_trees.specs.declared.frame.Frame.{Frame}
-use Rattle.clause_trees.specs.declared.clause.CheckedItem.{CheckedItem}
-use Rattle.clause_trees.specs.declared.clause.Target.{Target}
-use Rattle.clause_trees.specs.declared.clause.Target.TheVariants.{Old, New}
-use Rattle.clause_trees.specs.Frames.{has_role, is_role, numbers_from, numbers_of, changed_at}
-use Rattle.clause_trees.proofs.Changes.{changed-later}
-use Rattle.clause_trees.specs.After.{made, put, with_item, calculated}
+use Rattle.data_set_trees.specs.declared.clauses.frame.Frame.{Frame}
+use Rattle.data_set_trees.specs.declared.clauses.clause.CheckedItem.{CheckedItem}
+use Rattle.data_set_trees.specs.declared.clauses.clause.Target.{Target}
+use Rattle.data_set_trees.specs.declared.clauses.clause.Target.TheVariants.{Old, New}
+use Rattle.data_set_trees.specs.clauses.Frames.{has_role, is_role, numbers_from, numbers_of, changed_at}
+use Rattle.data_set_trees.proofs.clauses.Changes.{changed-later}
+use Rattle.data_set_trees.specs.clauses.After.{made, put, with_item, calculated}
 use Rattle.clause_meaning.specs.Clauses.{numbers_of_others}
 use Rattle.clause_eval.specs.Roles.{numbers_with, others_with, put_role, roles_after}
 

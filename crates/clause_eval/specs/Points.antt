@@ -8,11 +8,11 @@ use Rattle.vtl_values.specs.declared.value.Value.{Value}
 use Rattle.structured_sets.specs.Fitting.{is_identifier}
 use Rattle.scalar_meaning.specs.Rows.{point_row}
 use Rattle.scalar_meaning.specs.Scalars.{meaning}
-use Rattle.clause_trees.specs.declared.frame.Frame.{Frame}
-use Rattle.clause_trees.specs.declared.clause.CheckedClause.{CheckedClause}
-use Rattle.clause_trees.specs.declared.clause.CheckedClause.TheVariants as clause
-use Rattle.clause_trees.specs.Frames.{numbers_from, numbers_of}
-use Rattle.clause_trees.specs.After.{calculated, is_kept, is_left}
+use Rattle.data_set_trees.specs.declared.clauses.frame.Frame.{Frame}
+use Rattle.data_set_trees.specs.declared.clauses.clause.CheckedClause.{CheckedClause}
+use Rattle.data_set_trees.specs.declared.clauses.clause.CheckedClause.TheVariants as clause
+use Rattle.data_set_trees.specs.clauses.Frames.{numbers_from, numbers_of}
+use Rattle.data_set_trees.specs.clauses.After.{calculated, is_kept, is_left}
 use Rattle.clause_meaning.specs.Clauses.{is_true_at, item_values, calculated_values, numbers_of_others, others_where, has_values, key_left, measures, key_with_name, measure_point, worked_values, with_viral_values}
 
 -- each clause but `sub` and `unpivot` leaves a point its key

@@ -2,10 +2,10 @@
 use Rattle.std.specs.Prelude.{ℕ, ◌+◌, ◌++◌, List, [], ◌∷◌, fold, slice_set, if◌then◌else◌}
 use Rattle.vtl_values.specs.declared.kind.Role.{Role}
 use Rattle.vtl_values.specs.declared.kind.Role.TheVariants.{Measure, Attribute, Viral}
-use Rattle.clause_trees.specs.declared.clause.CheckedItem.{CheckedItem}
-use Rattle.clause_trees.specs.declared.clause.Target.{Target}
-use Rattle.clause_trees.specs.declared.clause.Target.TheVariants.{Old, New}
-use Rattle.clause_trees.specs.Frames.{is_role}
+use Rattle.data_set_trees.specs.declared.clauses.clause.CheckedItem.{CheckedItem}
+use Rattle.data_set_trees.specs.declared.clauses.clause.Target.{Target}
+use Rattle.data_set_trees.specs.declared.clauses.clause.Target.TheVariants.{Old, New}
+use Rattle.data_set_trees.specs.clauses.Frames.{is_role}
 
 -- the numbers at which a role stands, where the first has this number
 abbrev pub numbers_with : Role → ℕ → List Role → List ℕ

@@ -3,7 +3,7 @@ ghost use Rattle.std.specs.Prelude.{◌≡◌, ◌++◌, true, false, Some, opti
 ghost use Rattle.std.specs.Bool.{then_some};
 ghost use Rattle.scalar_meaning.specs.Rows.{point_row};
 ghost use Rattle.scalar_meaning.specs.Scalars.{meaning};
-ghost use Rattle.clause_trees.specs.declared.frame.Frame.{Frame};
+ghost use Rattle.data_set_trees.specs.declared.clauses.frame.Frame.{Frame};
 ghost use Rattle.clause_meaning.specs.Clauses as meant;
 ghost use Rattle.point_sets.specs.DataSets.{key_of, rest_of, HasKey};
 ghost use Rattle.clause_eval.specs.Points.{keeps_keys, is_beyond_on, values_from, picks_of};
@@ -11,7 +11,7 @@ ghost use Rattle.clause_eval.specs.Evaluations as found;
 
 use crate::items::{measure_values, with_items};
 use crate::values::{picked, picked_of};
-use clause_trees::{CheckedClause, CheckedItem, CheckedMeasure};
+use data_set_trees::clauses::{CheckedClause, CheckedItem, CheckedMeasure};
 use point_sets::{Key, Point};
 use scalar_eval::{EvalStop, Matchers, PointRow, eval};
 use scalar_trees::CheckedExpr;

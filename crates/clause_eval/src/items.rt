@@ -5,7 +5,7 @@ ghost use Rattle.scalar_eval.specs.Stops.{IsMeant};
 ghost use Rattle.clause_meaning.specs.Clauses as meant;
 
 use crate::values::all_of;
-use clause_trees::{CheckedItem, CheckedMeasure, Target};
+use data_set_trees::clauses::{CheckedItem, CheckedMeasure, Target};
 use point_sets::Point;
 use scalar_eval::{EvalStop, Matchers, PointRow, eval};
 use sqlite_items::Items;

@@ -3,7 +3,7 @@ ghost use Rattle.std.specs.Prelude.{◌≡◌, pos, ◌*ℤ◌, IfOk};
 ghost use Rattle.clause_meaning.specs.Clauses as meant;
 
 use crate::values::picked;
-use clause_trees::CheckedSubItem;
+use data_set_trees::clauses::CheckedSubItem;
 use point_sets::Key;
 use std::alloc::{AllocError, Global};
 use vtl_values::{Decimal, Integer, Value};

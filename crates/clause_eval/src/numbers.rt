@@ -1,13 +1,13 @@
 // Which of a point's values a clause takes over.
 ghost use Rattle.std.specs.Prelude.{◌≡◌, ◌++◌, ◌&&◌, not, map, IfOk, OnOk, IsTrue};
 ghost use Rattle.structured_sets.specs.Fitting.{is_identifier};
-ghost use Rattle.clause_trees.specs.Frames as meant_frames;
-ghost use Rattle.clause_trees.specs.After as meant_after;
+ghost use Rattle.data_set_trees.specs.clauses.Frames as meant_frames;
+ghost use Rattle.data_set_trees.specs.clauses.After as meant_after;
 ghost use Rattle.clause_eval.specs.Points.{picks_of};
 ghost use Rattle.clause_eval.specs.Roles.{numbers_with, others_with, roles_after, with_role};
 ghost use Rattle.vtl_values.specs.declared.kind.Role.TheVariants.{Viral};
 
-use clause_trees::{CheckedClause, CheckedItem, CheckedSubItem, Target};
+use data_set_trees::clauses::{CheckedClause, CheckedItem, CheckedSubItem, Target};
 use sqlite_items::Items;
 use std::alloc::{AllocError, Global};
 use vtl_values::{Component, Role};

@@ -5,8 +5,8 @@ ghost use Rattle.vtl_values.specs.declared.structure.Component.{Component as Col
 ghost use Rattle.vtl_values.specs.declared.value.Value.TheVariants.{Text};
 ghost use Rattle.data_model.specs.Maps.{if_passes};
 ghost use Rattle.scalar_meaning.specs.Comparisons.{is_null};
-ghost use Rattle.clause_trees.specs.declared.frame.Frame.{Frame};
-ghost use Rattle.clause_trees.specs.Frames.{numbers_of};
+ghost use Rattle.data_set_trees.specs.declared.clauses.frame.Frame.{Frame};
+ghost use Rattle.data_set_trees.specs.clauses.Frames.{numbers_of};
 ghost use Rattle.clause_meaning.specs.Clauses as meant;
 ghost use Rattle.point_sets.specs.DataSets.{key_of, rest_of, HasKey};
 ghost use Rattle.point_sets.specs.Changes.{values_of};

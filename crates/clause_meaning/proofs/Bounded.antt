@@ -11,9 +11,9 @@ use Rattle.data_model.specs.Outcomes.{Made, TooMany, Outcome, IsOutcome, IsResul
 use Rattle.data_model.specs.declared.TheConstants.{POINT_LIMIT}
 use Rattle.data_model.proofs.MapLemmas.{get-made_at_all, len-made_at}
 use Rattle.point_sets.specs.DataSets.{DataSet}
-use Rattle.clause_trees.specs.declared.frame.Frame.{Frame}
-use Rattle.clause_trees.specs.declared.clause.CheckedClause.{CheckedClause}
-use Rattle.clause_trees.specs.declared.clause.CheckedClause.TheVariants as clause
+use Rattle.data_set_trees.specs.declared.clauses.frame.Frame.{Frame}
+use Rattle.data_set_trees.specs.declared.clauses.clause.CheckedClause.{CheckedClause}
+use Rattle.data_set_trees.specs.declared.clauses.clause.CheckedClause.TheVariants as clause
 use Rattle.clause_meaning.specs.Workings.{Working}
 use Rattle.clause_meaning.specs.Clauses.{has_values, key_left, working_of, clause_meaning, makes_more}
 use Rattle.clause_meaning.proofs.Covered.{IsCovered, covered, meant}

@@ -9,9 +9,9 @@ use Rattle.vtl_values.specs.declared.kind.Role.TheVariants.{Identifier, Measure,
 use Rattle.vtl_values.specs.declared.structure.Component.{Component}
 use Rattle.vtl_values.specs.declared.value.Value.{Value}
 use Rattle.structured_sets.specs.Fitting.{is_identifier, identifiers, others, FitsComponent, FitsIdentifier, IsPointOf}
-use Rattle.clause_trees.specs.declared.frame.Frame.{Frame}
-use Rattle.clause_trees.specs.Frames.{is_role, has_role, numbers_of, by_role}
-use Rattle.clause_trees.proofs.Ordered.{role_is}
+use Rattle.data_set_trees.specs.declared.clauses.frame.Frame.{Frame}
+use Rattle.data_set_trees.specs.clauses.Frames.{is_role, has_role, numbers_of, by_role}
+use Rattle.data_set_trees.proofs.clauses.Ordered.{role_is}
 use Rattle.clause_meaning.proofs.Picked.{picked-filter}
 use Rattle.clause_meaning.proofs.Fits.{same_test}
 

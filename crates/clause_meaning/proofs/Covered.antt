@@ -17,11 +17,11 @@ use Rattle.data_model.proofs.MapLemmas.{equal, tied_to_itself, is_listed-keys, g
 use Rattle.data_model.proofs.OutcomeLemmas.{outcome-is, outcome-nothing}
 use Rattle.data_model.proofs.DeltaLemmas.{contradicted}
 use Rattle.point_sets.specs.DataSets.{DataSet}
-use Rattle.clause_trees.specs.declared.frame.Frame.{Frame}
-use Rattle.clause_trees.specs.declared.clause.CheckedClause.{CheckedClause}
-use Rattle.clause_trees.specs.declared.clause.CheckedClause.TheVariants as clause
-use Rattle.clause_trees.specs.declared.clause.CheckedSubItem.{CheckedSubItem}
-use Rattle.clause_trees.specs.Frames.{has_role}
+use Rattle.data_set_trees.specs.declared.clauses.frame.Frame.{Frame}
+use Rattle.data_set_trees.specs.declared.clauses.clause.CheckedClause.{CheckedClause}
+use Rattle.data_set_trees.specs.declared.clauses.clause.CheckedClause.TheVariants as clause
+use Rattle.data_set_trees.specs.declared.clauses.clause.CheckedSubItem.{CheckedSubItem}
+use Rattle.data_set_trees.specs.clauses.Frames.{has_role}
 use Rattle.clause_meaning.specs.Workings.{Working, outcome_of, point_by_point}
 use Rattle.clause_meaning.specs.Clauses.{has_values, key_left, measures, key_with_name, is_measure_called, measure_point, without_last, unpivoted_at, unpivot_working, sub_working, working_of, clause_meaning}
 use Rattle.clause_meaning.proofs.Lists.{find-unlisted, listed-flat_map, split-last}

@@ -10,20 +10,20 @@ use Rattle.vtl_values.specs.declared.kind.Role.{Role}
 use Rattle.vtl_values.specs.declared.kind.Role.TheVariants.{Identifier, Measure, Attribute, Viral}
 use Rattle.vtl_values.specs.declared.structure.Component.{Component}
 use Rattle.vtl_values.specs.declared.value.Value.{Value}
-use Rattle.typing_rules.proofs.Sound.{left, right}
+use Rattle.scalar_trees.proofs.typing.Sound.{left, right}
 use Rattle.data_model.specs.Outcomes.{Made}
 use Rattle.data_model.proofs.DeltaLemmas.{contradicted}
 use Rattle.point_sets.specs.DataSets.{DataSet}
 use Rattle.structured_sets.specs.Fitting.{is_identifier, identifiers, others, FitsComponent, FitsIdentifier, IsPointOf, IsSetOf}
 use Rattle.scalar_trees.specs.declared.tree.CheckedExpr.{CheckedExpr}
-use Rattle.clause_trees.specs.declared.frame.Frame.{Frame}
-use Rattle.clause_trees.specs.declared.clause.CheckedClause.TheVariants as clause
-use Rattle.clause_trees.specs.declared.clause.CheckedRename.{CheckedRename}
-use Rattle.clause_trees.specs.declared.clause.CheckedSubItem.{CheckedSubItem}
-use Rattle.clause_trees.specs.Frames.{has_role, is_role, numbers_from, kept, changed_at}
-use Rattle.clause_trees.specs.After.{after, is_among, is_kept, is_left, renamed, with_rename}
-use Rattle.clause_trees.specs.Clauses.{passes_at, may_drop, are_identifiers}
-use Rattle.clause_trees.proofs.Changes.{changed-later}
+use Rattle.data_set_trees.specs.declared.clauses.frame.Frame.{Frame}
+use Rattle.data_set_trees.specs.declared.clauses.clause.CheckedClause.TheVariants as clause
+use Rattle.data_set_trees.specs.declared.clauses.clause.CheckedRename.{CheckedRename}
+use Rattle.data_set_trees.specs.declared.clauses.clause.CheckedSubItem.{CheckedSubItem}
+use Rattle.data_set_trees.specs.clauses.Frames.{has_role, is_role, numbers_from, kept, changed_at}
+use Rattle.data_set_trees.specs.clauses.After.{after, is_among, is_kept, is_left, renamed, with_rename}
+use Rattle.data_set_trees.specs.clauses.Clauses.{passes_at, may_drop, are_identifiers}
+use Rattle.data_set_trees.proofs.clauses.Changes.{changed-later}
 use Rattle.clause_meaning.specs.Workings.{outcome_of, point_by_point}
 use Rattle.clause_meaning.specs.Clauses.{is_true_at, others_where, key_left, clause_meaning}
 use Rattle.clause_meaning.specs.Ordered.{HasIdentifiersFirst}

@@ -11,15 +11,15 @@ use Rattle.vtl_values.proofs.Values.{key_cmp-IsTotalOrder, key_cmp-IsAntisymmetr
 use Rattle.data_model.specs.Maps.{filtered}
 use Rattle.data_model.specs.Outcomes.{Made, Outcome, IsOutcome, IsResult}
 use Rattle.data_model.proofs.MapLemmas.{get-filtered, tied}
-use Rattle.typing_rules.proofs.Sound.{left, right}
+use Rattle.scalar_trees.proofs.typing.Sound.{left, right}
 use Rattle.point_sets.specs.DataSets.{DataSet}
 use Rattle.scalar_trees.specs.declared.tree.CheckedExpr.{CheckedExpr}
 use Rattle.scalar_meaning.specs.Rows.{point_row}
-use Rattle.clause_trees.specs.declared.frame.Frame.{Frame}
-use Rattle.clause_trees.specs.declared.clause.CheckedClause.TheVariants as clause
-use Rattle.clause_trees.specs.declared.clause.CheckedItem.{CheckedItem}
-use Rattle.clause_trees.specs.declared.clause.CheckedMeasure.{CheckedMeasure}
-use Rattle.clause_trees.specs.declared.clause.CheckedSubItem.{CheckedSubItem}
+use Rattle.data_set_trees.specs.declared.clauses.frame.Frame.{Frame}
+use Rattle.data_set_trees.specs.declared.clauses.clause.CheckedClause.TheVariants as clause
+use Rattle.data_set_trees.specs.declared.clauses.clause.CheckedItem.{CheckedItem}
+use Rattle.data_set_trees.specs.declared.clauses.clause.CheckedMeasure.{CheckedMeasure}
+use Rattle.data_set_trees.specs.declared.clauses.clause.CheckedSubItem.{CheckedSubItem}
 use Rattle.clause_meaning.specs.Workings.{Working, outcome_of, point_by_point}
 use Rattle.clause_meaning.specs.Clauses.{is_true_at, item_values, calculated_values, worked_values, with_viral_values, has_values, key_left, comes_to, measure_point, without_last, working_of, clause_meaning}
 use Rattle.clause_meaning.proofs.Lists.{found, last-pushed, before-pushed}

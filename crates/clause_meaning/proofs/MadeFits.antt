@@ -25,24 +25,24 @@ use Rattle.point_sets.specs.DataSets.{DataSet}
 use Rattle.structured_sets.specs.Fitting.{identifiers, FitsComponent, FitsIdentifier, IsPointOf, IsSetOf}
 use Rattle.scalar_trees.specs.declared.tree.CheckedExpr.{CheckedExpr}
 use Rattle.scalar_trees.specs.WellTyped.{Kinds, is_kind, is_of_kind}
-use Rattle.typing_rules.specs.Scopes.{column_of}
-use Rattle.typing_rules.proofs.Sound.{is_kind-same, both, left, right}
+use Rattle.scalar_trees.specs.typing.Scopes.{column_of}
+use Rattle.scalar_trees.proofs.typing.Sound.{is_kind-same, both, left, right}
 use Rattle.scalar_meaning.specs.Comparisons.{is_null}
 use Rattle.scalar_meaning.specs.Kept.{IsRowOf}
 use Rattle.scalar_meaning.specs.Rows.{Row, point_row}
 use Rattle.scalar_meaning.specs.Scalars.{meaning}
 use Rattle.scalar_meaning.proofs.Kept.{kinds-kept, points-are-rows}
-use Rattle.clause_trees.specs.declared.frame.Frame.{Frame}
-use Rattle.clause_trees.specs.declared.clause.CheckedClause.TheVariants as clause
-use Rattle.clause_trees.specs.declared.clause.CheckedItem.{CheckedItem}
-use Rattle.clause_trees.specs.declared.clause.CheckedMeasure.{CheckedMeasure}
-use Rattle.clause_trees.specs.declared.clause.Target.{Target}
-use Rattle.clause_trees.specs.declared.clause.Target.TheVariants.{Old, New}
-use Rattle.clause_trees.specs.Frames.{has_role, is_role, numbers_of, by_role, changed_at}
-use Rattle.clause_trees.specs.After.{made, put, with_item, calculated, always_stays, staying, with_measure, measured, measure_kind, unpivoted, after}
-use Rattle.clause_trees.specs.Clauses.{may_be_target, may_calculate, is_of_measure_kind, are_alike}
-use Rattle.clause_trees.specs.WellTyped.{kinds_on, is_of, may_be_made, is_item, is_well_typed}
-use Rattle.clause_trees.proofs.Changes.{changed-later}
+use Rattle.data_set_trees.specs.declared.clauses.frame.Frame.{Frame}
+use Rattle.data_set_trees.specs.declared.clauses.clause.CheckedClause.TheVariants as clause
+use Rattle.data_set_trees.specs.declared.clauses.clause.CheckedItem.{CheckedItem}
+use Rattle.data_set_trees.specs.declared.clauses.clause.CheckedMeasure.{CheckedMeasure}
+use Rattle.data_set_trees.specs.declared.clauses.clause.Target.{Target}
+use Rattle.data_set_trees.specs.declared.clauses.clause.Target.TheVariants.{Old, New}
+use Rattle.data_set_trees.specs.clauses.Frames.{has_role, is_role, numbers_of, by_role, changed_at}
+use Rattle.data_set_trees.specs.clauses.After.{made, put, with_item, calculated, always_stays, staying, with_measure, measured, measure_kind, unpivoted, after}
+use Rattle.data_set_trees.specs.clauses.Clauses.{may_be_target, may_calculate, is_of_measure_kind, are_alike}
+use Rattle.data_set_trees.specs.clauses.WellTyped.{kinds_on, is_of, may_be_made, is_item, is_well_typed}
+use Rattle.data_set_trees.proofs.clauses.Changes.{changed-later}
 use Rattle.clause_meaning.specs.Clauses.{values_at, values_on, item_values, put_value, put_values, numbers_of_others, calculated_values, worked_values, with_viral_values, is_measure_called, measure_point, without_last, working_of, clause_meaning}
 use Rattle.clause_meaning.specs.Ordered.{HasIdentifiersFirst}
 use Rattle.clause_meaning.proofs.Lists.{found, split-last}

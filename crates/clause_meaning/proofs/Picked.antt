@@ -3,7 +3,7 @@ use Rattle.std.proofs.Common.{◌≡◌, ◌+◌, ℕ, zero, suc, List, [], ◌�
 use Rattle.std.specs.Prelude.{filter, filter_map, slice_get}
 use Rattle.std.specs.List.{AllZip, cons_option}
 use Rattle.vtl_values.specs.declared.structure.Component.{Component}
-use Rattle.clause_trees.specs.Frames.{numbers_from}
+use Rattle.data_set_trees.specs.clauses.Frames.{numbers_from}
 
 -- ---- lists that agree place by place
 

@@ -14,13 +14,13 @@ use Rattle.vtl_values.specs.Order.{value_cmp}
 use Rattle.vtl_values.specs.Texts.{Fits}
 use Rattle.vtl_values.proofs.Values.{value_cmp-IsAntisymmetric}
 use Rattle.data_model.proofs.MapLemmas.{equal}
-use Rattle.typing_rules.proofs.Sound.{left, right}
+use Rattle.scalar_trees.proofs.typing.Sound.{left, right}
 use Rattle.structured_sets.specs.Fitting.{is_identifier, identifiers, others, FitsIdentifier}
 use Rattle.scalar_trees.specs.Kinds.{number_value}
-use Rattle.clause_trees.specs.declared.frame.Frame.{Frame}
-use Rattle.clause_trees.specs.declared.clause.CheckedSubItem.{CheckedSubItem}
-use Rattle.clause_trees.specs.Frames.{numbers_from}
-use Rattle.clause_trees.specs.After.{is_among, is_left}
+use Rattle.data_set_trees.specs.declared.clauses.frame.Frame.{Frame}
+use Rattle.data_set_trees.specs.declared.clauses.clause.CheckedSubItem.{CheckedSubItem}
+use Rattle.data_set_trees.specs.clauses.Frames.{numbers_from}
+use Rattle.data_set_trees.specs.clauses.After.{is_among, is_left}
 use Rattle.clause_meaning.specs.Clauses.{values_at, is_equal, has_value, has_values, key_left}
 use Rattle.clause_meaning.specs.Ordered.{HasIdentifiersFirst}
 use Rattle.clause_meaning.proofs.Picked.{head-at, tail-at}

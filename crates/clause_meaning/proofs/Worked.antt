@@ -23,7 +23,7 @@ use Rattle.scalar_meaning.specs.Numbers.{integer_of}
 use Rattle.scalar_meaning.specs.Operators.{binary_value}
 use Rattle.scalar_meaning.specs.Rows.{Row, point_row}
 use Rattle.scalar_meaning.specs.Scalars.{meaning_step, meaning}
-use Rattle.clause_trees.specs.declared.clause.CheckedClause.TheVariants as clause
+use Rattle.data_set_trees.specs.declared.clauses.clause.CheckedClause.TheVariants as clause
 use Rattle.clause_meaning.specs.Workings.{Working, outcome_of}
 use Rattle.clause_meaning.specs.Clauses.{item_values, worked_values, working_of, clause_meaning}
 use Rattle.clause_meaning.specs.Examples.{frame, people, north, south, counts, many_men, year_one, moved, multiplied, boys, doubled, women, by_sex}

@@ -21,16 +21,16 @@ use Rattle.scalar_meaning.specs.Comparisons.{is_null}
 use Rattle.scalar_meaning.specs.Logic.{holds}
 use Rattle.scalar_meaning.specs.Rows.{Row, point_row}
 use Rattle.scalar_meaning.specs.Scalars.{meaning}
-use Rattle.clause_trees.specs.declared.frame.Frame.{Frame}
-use Rattle.clause_trees.specs.declared.clause.CheckedClause.{CheckedClause}
-use Rattle.clause_trees.specs.declared.clause.CheckedClause.TheVariants as clause
-use Rattle.clause_trees.specs.declared.clause.CheckedItem.{CheckedItem}
-use Rattle.clause_trees.specs.declared.clause.CheckedMeasure.{CheckedMeasure}
-use Rattle.clause_trees.specs.declared.clause.CheckedSubItem.{CheckedSubItem}
-use Rattle.clause_trees.specs.declared.clause.Target.{Target}
-use Rattle.clause_trees.specs.declared.clause.Target.TheVariants.{Old, New}
-use Rattle.clause_trees.specs.Frames.{has_role, numbers_from, numbers_of}
-use Rattle.clause_trees.specs.After.{calculated, is_kept, is_left}
+use Rattle.data_set_trees.specs.declared.clauses.frame.Frame.{Frame}
+use Rattle.data_set_trees.specs.declared.clauses.clause.CheckedClause.{CheckedClause}
+use Rattle.data_set_trees.specs.declared.clauses.clause.CheckedClause.TheVariants as clause
+use Rattle.data_set_trees.specs.declared.clauses.clause.CheckedItem.{CheckedItem}
+use Rattle.data_set_trees.specs.declared.clauses.clause.CheckedMeasure.{CheckedMeasure}
+use Rattle.data_set_trees.specs.declared.clauses.clause.CheckedSubItem.{CheckedSubItem}
+use Rattle.data_set_trees.specs.declared.clauses.clause.Target.{Target}
+use Rattle.data_set_trees.specs.declared.clauses.clause.Target.TheVariants.{Old, New}
+use Rattle.data_set_trees.specs.clauses.Frames.{has_role, numbers_from, numbers_of}
+use Rattle.data_set_trees.specs.clauses.After.{calculated, is_kept, is_left}
 use Rattle.clause_meaning.specs.Workings.{Working, outcome_of, point_by_point, never}
 
 -- the values of the components with these numbers

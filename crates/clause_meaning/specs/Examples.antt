@@ -11,14 +11,14 @@ use Rattle.point_sets.specs.DataSets.{DataSet}
 use Rattle.scalar_trees.specs.declared.operators.BinaryOperator.TheVariants as binary
 use Rattle.scalar_trees.specs.declared.tree.CheckedExpr.{CheckedExpr}
 use Rattle.scalar_trees.specs.declared.tree.CheckedExpr.TheVariants as expr
-use Rattle.clause_trees.specs.declared.frame.Frame.{Frame}
-use Rattle.clause_trees.specs.declared.clause.CheckedItem.{CheckedItem}
-use Rattle.clause_trees.specs.declared.clause.CheckedMeasure.{CheckedMeasure}
-use Rattle.clause_trees.specs.declared.clause.CheckedRename.{CheckedRename}
-use Rattle.clause_trees.specs.declared.clause.CheckedSubItem.{CheckedSubItem}
-use Rattle.clause_trees.specs.declared.clause.Target.TheVariants.{Old, New}
-use Rattle.clause_trees.specs.Frames.{frame_of}
-use Rattle.clause_trees.specs.After as after
+use Rattle.data_set_trees.specs.declared.clauses.frame.Frame.{Frame}
+use Rattle.data_set_trees.specs.declared.clauses.clause.CheckedItem.{CheckedItem}
+use Rattle.data_set_trees.specs.declared.clauses.clause.CheckedMeasure.{CheckedMeasure}
+use Rattle.data_set_trees.specs.declared.clauses.clause.CheckedRename.{CheckedRename}
+use Rattle.data_set_trees.specs.declared.clauses.clause.CheckedSubItem.{CheckedSubItem}
+use Rattle.data_set_trees.specs.declared.clauses.clause.Target.TheVariants.{Old, New}
+use Rattle.data_set_trees.specs.clauses.Frames.{frame_of}
+use Rattle.data_set_trees.specs.clauses.After as after
 
 -- area 0, year 1, men 2, women 3, status 4
 abbrev pub components : List Component

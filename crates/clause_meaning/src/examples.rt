@@ -3,7 +3,7 @@ ghost use Rattle.std.specs.Prelude.{◌≡◌, pos, [], ◌∷◌, codes};
 ghost use Rattle.std.specs.FinMap.{from_entries};
 ghost use Rattle.vtl_values.specs.declared.value.Value.TheVariants.{Null, Integer, Text};
 ghost use Rattle.data_model.specs.Outcomes.{made, range_at};
-ghost use Rattle.clause_trees.specs.declared.clause.CheckedClause.TheVariants as clause;
+ghost use Rattle.data_set_trees.specs.declared.clauses.clause.CheckedClause.TheVariants as clause;
 ghost use Rattle.clause_meaning.specs.Clauses.{clause_meaning};
 ghost use Rattle.clause_meaning.specs.Examples.{frame, people, north, south, many_men, year_one, moved, multiplied, boys, doubled, women, by_sex};
 

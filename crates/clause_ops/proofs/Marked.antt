@@ -29,9 +29,9 @@ use Rattle.point_sets.specs.Changes.{Changes, values_eq, values_of, change_entry
 use Rattle.point_sets.proofs.Changes.{values_eq-IsEqualityTest}
 use Rattle.point_sets.proofs.Ordered.{find_at}
 use Rattle.structured_sets.specs.Fitting.{identifiers, FitsIdentifier, IsPointOf, IsSetOf}
-use Rattle.clause_trees.specs.declared.frame.Frame.{Frame}
-use Rattle.clause_trees.specs.declared.clause.CheckedClause.{CheckedClause}
-use Rattle.clause_trees.specs.Frames.{frame_of}
+use Rattle.data_set_trees.specs.declared.clauses.frame.Frame.{Frame}
+use Rattle.data_set_trees.specs.declared.clauses.clause.CheckedClause.{CheckedClause}
+use Rattle.data_set_trees.specs.clauses.Frames.{frame_of}
 use Rattle.clause_meaning.specs.Clauses.{working_of, clause_meaning}
 use Rattle.clause_meaning.specs.Ordered.{HasIdentifiersFirst}
 use Rattle.clause_meaning.specs.Workings.{Working}

@@ -1,7 +1,7 @@
 -- A clause gives in a join what it gives on a data set.
 use Rattle.std.proofs.Common.{◌≡◌, List, [], ◌∷◌, Some, ap}
 use Rattle.vtl_values.specs.declared.structure.Component.{Component}
-use Rattle.clause_trees.specs.declared.clause.CheckedClause.{CheckedClause}
+use Rattle.data_set_trees.specs.declared.clauses.clause.CheckedClause.{CheckedClause}
 use Rattle.data_set_trees.specs.declared.tree.DataSetOperator.{DataSetOperator}
 use Rattle.data_set_trees.specs.declared.tree.DataSetOperator.TheVariants.{Clause, Pair, Choice, ExistsIn, Set, Join, InJoin, Aggregate, Window, WindowInJoin, Time, Check, Datapoint, Hierarchy}
 use Rattle.operator_meaning.specs.Operators.{clause_on, meaning_of}

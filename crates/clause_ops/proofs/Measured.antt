@@ -10,11 +10,11 @@ use Rattle.vtl_values.specs.declared.value.Value.TheVariants.{Text}
 use Rattle.data_model.specs.Drafts.{note_beyond, note_value}
 use Rattle.point_sets.specs.declared.delta.Change.{Change}
 use Rattle.point_sets.specs.Changes.{values_eq, values_of}
-use Rattle.clause_trees.specs.declared.frame.Frame.{Frame}
-use Rattle.clause_trees.specs.declared.clause.CheckedClause.{CheckedClause}
-use Rattle.clause_trees.specs.declared.clause.CheckedClause.TheVariants as clause
-use Rattle.clause_trees.specs.declared.clause.CheckedSubItem.{CheckedSubItem}
-use Rattle.clause_trees.specs.Frames.{has_role}
+use Rattle.data_set_trees.specs.declared.clauses.frame.Frame.{Frame}
+use Rattle.data_set_trees.specs.declared.clauses.clause.CheckedClause.{CheckedClause}
+use Rattle.data_set_trees.specs.declared.clauses.clause.CheckedClause.TheVariants as clause
+use Rattle.data_set_trees.specs.declared.clauses.clause.CheckedSubItem.{CheckedSubItem}
+use Rattle.data_set_trees.specs.clauses.Frames.{has_role}
 use Rattle.clause_meaning.specs.Clauses.{has_values, key_left, key_with_name, measures, measure_point}
 use Rattle.clause_meaning.proofs.Lists.{last-pushed}
 use Rattle.clause_eval.specs.Points.{keeps_keys, is_beyond_at, values_at_key}

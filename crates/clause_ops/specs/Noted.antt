@@ -9,8 +9,8 @@ use Rattle.data_model.specs.Drafts.{note_beyond, note_value, IsDraft}
 use Rattle.point_sets.specs.DataSets.{DataSet}
 use Rattle.point_sets.specs.Changes.{Changes, values_eq, values_of}
 use Rattle.point_sets.specs.declared.delta.Change.{Change}
-use Rattle.clause_trees.specs.declared.frame.Frame.{Frame}
-use Rattle.clause_trees.specs.declared.clause.CheckedClause.{CheckedClause}
+use Rattle.data_set_trees.specs.declared.clauses.frame.Frame.{Frame}
+use Rattle.data_set_trees.specs.declared.clauses.clause.CheckedClause.{CheckedClause}
 use Rattle.clause_meaning.specs.Clauses.{measure_point, working_of}
 use Rattle.clause_eval.specs.Points.{keys_from, is_beyond_at, values_at_key}
 use Rattle.held_index.specs.Drafts.{SetDraft}

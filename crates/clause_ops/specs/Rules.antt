@@ -1,11 +1,11 @@
 -- The rules of clauses.
 use Rattle.std.specs.Prelude.{◌≡◌, ℕ, true, List, [], ◌∷◌, Option, Some, None, is_some}
 use Rattle.vtl_values.specs.declared.structure.Component.{Component}
-use Rattle.clause_trees.specs.declared.clause.CheckedClause.{CheckedClause}
-use Rattle.clause_trees.specs.Frames.{frame_of}
+use Rattle.data_set_trees.specs.declared.clauses.clause.CheckedClause.{CheckedClause}
+use Rattle.data_set_trees.specs.clauses.Frames.{frame_of}
 use Rattle.data_set_trees.specs.declared.tree.DataSetOperator.{DataSetOperator}
 use Rattle.data_set_trees.specs.declared.tree.DataSetOperator.TheVariants.{Clause, InJoin}
-use Rattle.checked_trees.specs.Operators.{an_operator, Operator, IsTyped}
+use Rattle.data_set_trees.specs.checked.Operators.{an_operator, Operator, IsTyped}
 use Rattle.clause_eval.specs.Points.{picks_of}
 
 -- the clause that an operator is, on a data set or in a join

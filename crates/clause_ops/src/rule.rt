@@ -1,13 +1,13 @@
 // The rule of a clause on one data set.
 ghost use Rattle.std.specs.Prelude.{◌≡◌, ◌∷◌, [], Some, IfOk};
 ghost use Rattle.vtl_values.specs.declared.structure.Component.{Component};
-ghost use Rattle.checked_trees.specs.Operators.{an_operator, IsTyped};
+ghost use Rattle.data_set_trees.specs.checked.Operators.{an_operator, IsTyped};
 ghost use Rattle.clause_ops.specs.Rules.{clause_in, IsClause};
 
 use crate::notes::noted;
 use clause_eval::picks;
-use clause_trees::CheckedClause;
 use data_model::steps::Steps;
+use data_set_trees::clauses::CheckedClause;
 use data_set_trees::{DataSetNode, DataSetOperator, SharedOperator};
 use held_index::{DeltaRule, Held, Stop, Want};
 use point_sets::Delta;
@@ -31,7 +31,7 @@ pub struct ClauseRule {
 }
 
 impl Model for ClauseRule {
-    ghost use Rattle.checked_trees.specs.Operators.{operator_coded, Operator};
+    ghost use Rattle.data_set_trees.specs.checked.Operators.{operator_coded, Operator};
     ghost use Rattle.clause_ops.specs.Rules.{on_one, IsRule};
 
     ghost Value = { Operator };

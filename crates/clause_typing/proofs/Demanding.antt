@@ -2,10 +2,10 @@
 use Rattle.std.proofs.Common.{◌≡◌, refl, Bool, true, false, ◌&&◌, List, [], ◌∷◌, Result, Ok, IfErr, IsErrAnd, ap, sym, ◌∙◌}
 use Rattle.std.specs.List.{list_all}
 use Rattle.vtl_values.specs.declared.place.Place.{Place}
-use Rattle.typing_rules.specs.declared.stop.Fault.{Fault}
-use Rattle.typing_rules.specs.declared.stop.TypeStop.{TypeStop}
-use Rattle.typing_rules.specs.Steps.{◌>>=◌, demanded, Refuses}
-use Rattle.clause_trees.specs.Clauses.{demands}
+use Rattle.scalar_trees.specs.declared.typing.stop.Fault.{Fault}
+use Rattle.scalar_trees.specs.declared.typing.stop.TypeStop.{TypeStop}
+use Rattle.scalar_trees.specs.typing.Steps.{◌>>=◌, demanded, Refuses}
+use Rattle.data_set_trees.specs.clauses.Clauses.{demands}
 use Rattle.operator_typing.proofs.Steps.{goes_on, stops_same, fails_there}
 
 -- all demands of the code are met, and they are those of the definition

@@ -4,7 +4,7 @@ use Rattle.std.specs.List.{list_any}
 use Rattle.std.proofs.lemmas.List.{take_more, take_all, take-append-drop, map-append}
 use Rattle.std.proofs.lemmas.List.Folds.{list_any-append}
 use Rattle.indexmap.specs.IndexSet.{insert_key}
-use Rattle.clause_trees.specs.Clauses.{all_differ}
+use Rattle.data_set_trees.specs.clauses.Clauses.{all_differ}
 
 -- items are the same where what tells them apart is, and so are the keys that look at it
 pub record IsKeyed {A K V : Type 0} (same : A → A → Bool) (eq : K → K → Bool) (key : A → V) (look : K → V) : Type 0 where

@@ -4,11 +4,11 @@ use Rattle.std.proofs.Math.Path.{ap₂}
 use Rattle.std.proofs.lemmas.Cmp.{nat_eq_equiv, nat_list_eq_equiv}
 use Rattle.std.specs.Option.{option_eq, option_map}
 use Rattle.vtl_values.specs.Texts.{same_text}
-use Rattle.clause_trees.specs.declared.clause.CheckedItem.{CheckedItem}
-use Rattle.clause_trees.specs.declared.clause.CheckedRename.{CheckedRename}
-use Rattle.clause_trees.specs.declared.clause.Target.{Target}
-use Rattle.clause_trees.specs.declared.clause.Target.TheVariants.{Old, New}
-use Rattle.clause_trees.specs.Clauses.{is_same_alias, is_same_name, is_same_target}
+use Rattle.data_set_trees.specs.declared.clauses.clause.CheckedItem.{CheckedItem}
+use Rattle.data_set_trees.specs.declared.clauses.clause.CheckedRename.{CheckedRename}
+use Rattle.data_set_trees.specs.declared.clauses.clause.Target.{Target}
+use Rattle.data_set_trees.specs.declared.clauses.clause.Target.TheVariants.{Old, New}
+use Rattle.data_set_trees.specs.clauses.Clauses.{is_same_alias, is_same_name, is_same_target}
 use Rattle.clause_typing.specs.declared.differ.FullName.{FullName}
 use Rattle.clause_typing.specs.declared.differ.TargetRef.{TargetRef}
 use Rattle.clause_typing.specs.declared.differ.TargetRef.TheVariants as refers

@@ -7,12 +7,12 @@ use Rattle.vtl_values.specs.declared.place.Place.{Place}
 use Rattle.scalar_trees.specs.Kinds.{may_stand}
 use Rattle.scalar_trees.specs.declared.tree.CheckedExpr.{CheckedExpr}
 use Rattle.scalar_trees.specs.WellTyped.{Kinds, is_exactly, is_of_kind}
-use Rattle.typing_rules.specs.declared.stop.Fault.TheVariants.{WrongType}
-use Rattle.typing_rules.specs.declared.typed.Typed.{Typed}
-use Rattle.typing_rules.specs.Scalars.{widened, wanted}
-use Rattle.typing_rules.specs.Sound.{IsTyped}
-use Rattle.typing_rules.specs.Steps.{◌>>=◌, or_refused}
-use Rattle.typing_rules.proofs.Sound.{is_kind-refl, exact-own, widened-exact}
+use Rattle.scalar_trees.specs.declared.typing.stop.Fault.TheVariants.{WrongType}
+use Rattle.scalar_trees.specs.declared.typing.typed.Typed.{Typed}
+use Rattle.scalar_trees.specs.typing.Scalars.{widened, wanted}
+use Rattle.scalar_trees.specs.typing.Sound.{IsTyped}
+use Rattle.scalar_trees.specs.typing.Steps.{◌>>=◌, or_refused}
+use Rattle.scalar_trees.proofs.typing.Sound.{is_kind-refl, exact-own, widened-exact}
 
 -- what is wanted is of that kind
 pub wanted_is : (kinds : Kinds) (place : Place) (kind : Kind) (a : Typed) (tree : CheckedExpr) → IsTyped kinds a → wanted place kind a ≡ Ok tree → is_of_kind kinds tree kind ≡ true

@@ -1,8 +1,8 @@
 -- What names and targets are told apart by.
 use Rattle.std.specs.Prelude.{ℕ, List, Option, option_map}
-use Rattle.typing_rules.specs.declared.scope.ScopeName.{ScopeName}
-use Rattle.clause_trees.specs.declared.clause.Target.{Target}
-use Rattle.clause_trees.specs.declared.clause.Target.TheVariants.{Old, New}
+use Rattle.scalar_trees.specs.declared.typing.scope.ScopeName.{ScopeName}
+use Rattle.data_set_trees.specs.declared.clauses.clause.Target.{Target}
+use Rattle.data_set_trees.specs.declared.clauses.clause.Target.TheVariants.{Old, New}
 use Rattle.clause_typing.specs.declared.differ.FullName.{FullName}
 use Rattle.clause_typing.specs.declared.differ.TargetRef.{TargetRef}
 use Rattle.clause_typing.specs.declared.differ.TargetRef.TheVariants as refers

@@ -1,19 +1,19 @@
 // Frames after a clause.
 ghost use Rattle.std.specs.Prelude.{◌≡◌, filter, find, fold, map, option_map, not, IfOk, OnOk};
 ghost use Rattle.vtl_values.specs.declared.kind.Role.TheVariants.{Measure};
-ghost use Rattle.clause_trees.specs.Frames as meant_frames;
-ghost use Rattle.clause_trees.specs.After as meant;
+ghost use Rattle.data_set_trees.specs.clauses.Frames as meant_frames;
+ghost use Rattle.data_set_trees.specs.clauses.After as meant;
 
 use crate::numbers::{
     has_role, numbers_by_role, numbers_kept, numbers_left, numbers_of_items, numbers_staying,
 };
 use crate::parts::{copy_name, picked};
-use clause_trees::{
+use data_set_trees::clauses::{
     CheckedClause, CheckedItem, CheckedMeasure, CheckedRename, CheckedSubItem, Frame, Target,
 };
+use scalar_trees::typing::ScopeName;
 use sqlite_items::Items;
 use std::alloc::{AllocError, Global};
-use typing_rules::ScopeName;
 use vtl_values::{Codes, Component, Kind, Role, Word};
 
 /// A component without a code list, or want of memory.

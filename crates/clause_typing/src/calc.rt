@@ -1,10 +1,10 @@
 // `calc`.
 ghost use Rattle.std.specs.Prelude.{◌≡◌, true, Ok, All, IfOk, IfErr};
-ghost use Rattle.typing_rules.specs.Sound.{IsTyped};
-ghost use Rattle.typing_rules.specs.Steps.{Refuses};
-ghost use Rattle.clause_trees.specs.After.{calculated};
-ghost use Rattle.clause_trees.specs.Clauses as meant;
-ghost use Rattle.clause_trees.specs.WellTyped.{is_of, is_well_typed, kinds_on};
+ghost use Rattle.scalar_trees.specs.typing.Sound.{IsTyped};
+ghost use Rattle.scalar_trees.specs.typing.Steps.{Refuses};
+ghost use Rattle.data_set_trees.specs.clauses.After.{calculated};
+ghost use Rattle.data_set_trees.specs.clauses.Clauses as meant;
+ghost use Rattle.data_set_trees.specs.clauses.WellTyped.{is_of, is_well_typed, kinds_on};
 
 use crate::after::calculate;
 use crate::choices::may_go;
@@ -12,10 +12,10 @@ use crate::demanded::{demands, has_room};
 use crate::differ::targets_differ;
 use crate::names::bare_number_of;
 use crate::parts::copy_frame;
-use clause_trees::{CheckedClause, CheckedItem, Frame, Target};
+use data_set_trees::clauses::{CheckedClause, CheckedItem, Frame, Target};
+use scalar_trees::typing::{Fault, TypeStop, Typed};
 use sqlite_items::Items;
 use std::alloc::{AllocError, Global};
-use typing_rules::{Fault, TypeStop, Typed};
 use vtl_syntax::words::ItemRole;
 use vtl_values::{Kind, Place, Role, Word};
 

@@ -1,18 +1,18 @@
 // `keep` and `drop`.
 ghost use Rattle.std.specs.Prelude.{◌≡◌, not, true, Ok, IfOk, IfErr};
 ghost use Rattle.vtl_values.specs.declared.kind.Role.TheVariants.{Identifier};
-ghost use Rattle.typing_rules.specs.Steps.{Refuses};
-ghost use Rattle.clause_trees.specs.Frames.{has_role};
-ghost use Rattle.clause_trees.specs.After as after;
-ghost use Rattle.clause_trees.specs.Clauses as meant;
-ghost use Rattle.clause_trees.specs.WellTyped.{is_well_typed};
+ghost use Rattle.scalar_trees.specs.typing.Steps.{Refuses};
+ghost use Rattle.data_set_trees.specs.clauses.Frames.{has_role};
+ghost use Rattle.data_set_trees.specs.clauses.After as after;
+ghost use Rattle.data_set_trees.specs.clauses.Clauses as meant;
+ghost use Rattle.data_set_trees.specs.clauses.WellTyped.{is_well_typed};
 
 use crate::demanded::demands;
 use crate::names::{are_known, numbers_named};
 use crate::numbers::{always_stays, has_role};
-use clause_trees::{CheckedClause, Frame};
+use data_set_trees::clauses::{CheckedClause, Frame};
+use scalar_trees::typing::{Fault, TypeStop};
 use std::alloc::Global;
-use typing_rules::{Fault, TypeStop};
 use vtl_syntax::expr::Comp;
 use vtl_values::{Place, Role};
 

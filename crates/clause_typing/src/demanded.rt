@@ -1,10 +1,10 @@
 // What is demanded at a clause's word.
 ghost use Rattle.std.specs.Prelude.{◌≡◌, nat_le, length, Ok, IfOk, IfErr};
-ghost use Rattle.typing_rules.specs.Steps.{Refuses};
-ghost use Rattle.clause_trees.specs.Clauses as meant;
+ghost use Rattle.scalar_trees.specs.typing.Steps.{Refuses};
+ghost use Rattle.data_set_trees.specs.clauses.Clauses as meant;
 
-use clause_trees::Frame;
-use typing_rules::{Fault, TypeStop, demand};
+use data_set_trees::clauses::Frame;
+use scalar_trees::typing::{Fault, TypeStop, demand};
 use vtl_values::Place;
 
 /// What is demanded at the word of a clause or a call, in the order of the faults: the fault of the first demand that isn't

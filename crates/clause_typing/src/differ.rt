@@ -1,12 +1,12 @@
 // Whether no two are the same, at the cost of their number.
 ghost use Rattle.std.specs.Prelude.{◌≡◌, IfOk};
-ghost use Rattle.clause_trees.specs.Clauses as meant;
+ghost use Rattle.data_set_trees.specs.clauses.Clauses as meant;
 ghost use Rattle.clause_typing.specs.Keys.{name_of, full_name, target_of};
 
-use clause_trees::{CheckedItem, CheckedRename, Frame, Target};
+use data_set_trees::clauses::{CheckedItem, CheckedRename, Frame, Target};
 use indexmap::IndexSet;
+use scalar_trees::typing::ScopeName;
 use std::alloc::{AllocError, Global};
-use typing_rules::ScopeName;
 use vtl_values::Word;
 
 /// A name, alias and all.

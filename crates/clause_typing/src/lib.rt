@@ -1,10 +1,10 @@
 //! What the clauses of a data set are checked to be, or their faults; and what a frame is after a clause.
 //!
-//! It stands on `clause_trees` for the trees and the definitions, and on `operator_typing` for operands and names. There
-//! is one call for each clause, none of which calls itself; the expressions in a clause are typed by the caller. Each
-//! answers exactly what the definition says, or want of memory. They serve data sets and joins alike, since what a clause
-//! works on is a frame. What the typing of other operators wants too is exported beside them: demands at a word, names and
-//! parts of frames, roles.
+//! It stands on `data_set_trees::clauses` for the trees and the definitions, and on `operator_typing` for operands and
+//! names. There is one call for each clause, none of which calls itself; the expressions in a clause are typed by the
+//! caller. Each answers exactly what the definition says, or want of memory. They serve data sets and joins alike,
+//! since what a clause works on is a frame. What the typing of other operators wants too is exported beside them:
+//! demands at a word, names and parts of frames, roles.
 #![tactic(auto)]
 
 mod after;

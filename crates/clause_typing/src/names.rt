@@ -2,11 +2,11 @@
 ghost use Rattle.std.specs.Prelude.{◌≡◌, ℕ, Option, None, map, filter_map, option_and_then, is_some, IfOk};
 ghost use Rattle.std.specs.Option.{option_map};
 ghost use Rattle.std.specs.List.{list_all};
-ghost use Rattle.typing_rules.specs.declared.scope.Basis.TheVariants.{Point};
-ghost use Rattle.typing_rules.specs.Scopes.{column_of, slot_at};
-ghost use Rattle.clause_trees.specs.Clauses as meant;
+ghost use Rattle.scalar_trees.specs.declared.typing.scope.Basis.TheVariants.{Point};
+ghost use Rattle.scalar_trees.specs.typing.Scopes.{column_of, slot_at};
+ghost use Rattle.data_set_trees.specs.clauses.Clauses as meant;
 
-use clause_trees::Frame;
+use data_set_trees::clauses::Frame;
 use operator_typing::{bare_number, member_number};
 use sqlite_items::Items;
 use std::alloc::{AllocError, Global};

@@ -1,10 +1,10 @@
 // The numbers of the components that are in a part of a frame.
 ghost use Rattle.std.specs.Prelude.{◌≡◌, ◌++◌, map, IfOk, OnOk};
 ghost use Rattle.vtl_values.specs.declared.kind.Role.TheVariants.{Identifier, Viral};
-ghost use Rattle.clause_trees.specs.Frames as meant;
-ghost use Rattle.clause_trees.specs.After as meant_after;
+ghost use Rattle.data_set_trees.specs.clauses.Frames as meant;
+ghost use Rattle.data_set_trees.specs.clauses.After as meant_after;
 
-use clause_trees::CheckedSubItem;
+use data_set_trees::clauses::CheckedSubItem;
 use sqlite_items::Items;
 use std::alloc::{AllocError, Global};
 use vtl_values::{Component, Role};

@@ -1,14 +1,14 @@
 // Frames, and parts of them.
 ghost use Rattle.std.specs.Prelude.{◌≡◌, ℕ, filter_map, option_map, position, nat_eq, slice_get, IfOk};
 ghost use Rattle.indexmap.specs.IndexMap.{get};
-ghost use Rattle.clause_trees.specs.Frames as meant;
+ghost use Rattle.data_set_trees.specs.clauses.Frames as meant;
 
-use clause_trees::Frame;
+use data_set_trees::clauses::Frame;
 use indexmap::IndexMap;
 use operator_typing::scope_of;
+use scalar_trees::typing::{Column, Scope, ScopeName};
 use sqlite_items::Items;
 use std::alloc::{AllocError, Global};
-use typing_rules::{Column, Scope, ScopeName};
 use vtl_values::{Component, Word};
 
 fn copy_alias(alias: &Option<Word>) -> Result<Option<Word>, AllocError>

@@ -1,15 +1,15 @@
 // `filter`.
 ghost use Rattle.std.specs.Prelude.{◌≡◌, true, Ok, IfOk, IfErr};
-ghost use Rattle.typing_rules.specs.Sound.{IsTyped};
-ghost use Rattle.typing_rules.specs.Steps.{Refuses};
-ghost use Rattle.clause_trees.specs.declared.frame.Frame.{Frame};
-ghost use Rattle.clause_trees.specs.Clauses as meant;
-ghost use Rattle.clause_trees.specs.WellTyped.{is_well_typed, kinds_on};
+ghost use Rattle.scalar_trees.specs.typing.Sound.{IsTyped};
+ghost use Rattle.scalar_trees.specs.typing.Steps.{Refuses};
+ghost use Rattle.data_set_trees.specs.declared.clauses.frame.Frame.{Frame};
+ghost use Rattle.data_set_trees.specs.clauses.Clauses as meant;
+ghost use Rattle.data_set_trees.specs.clauses.WellTyped.{is_well_typed, kinds_on};
 
-use clause_trees::CheckedClause;
+use data_set_trees::clauses::CheckedClause;
 use operator_typing::wanted;
+use scalar_trees::typing::{TypeStop, Typed};
 use std::alloc::Global;
-use typing_rules::{TypeStop, Typed};
 use vtl_values::{Kind, Place};
 
 /// `filter condition`; `WrongType` where the condition is no boolean, which the literal null is, or want of memory.

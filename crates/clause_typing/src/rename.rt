@@ -1,18 +1,18 @@
 // `rename`.
 ghost use Rattle.std.specs.Prelude.{◌≡◌, true, Ok, IfOk, IfErr};
-ghost use Rattle.typing_rules.specs.Steps.{Refuses};
-ghost use Rattle.clause_trees.specs.Clauses as meant;
-ghost use Rattle.clause_trees.specs.WellTyped.{is_well_typed};
+ghost use Rattle.scalar_trees.specs.typing.Steps.{Refuses};
+ghost use Rattle.data_set_trees.specs.clauses.Clauses as meant;
+ghost use Rattle.data_set_trees.specs.clauses.WellTyped.{is_well_typed};
 
 use crate::after::rename_all;
 use crate::demanded::demands;
 use crate::differ::{names_differ, renamed_once};
 use crate::names::number_of;
 use crate::parts::copy_frame;
-use clause_trees::{CheckedClause, CheckedRename, Frame};
+use data_set_trees::clauses::{CheckedClause, CheckedRename, Frame};
+use scalar_trees::typing::{Fault, TypeStop};
 use sqlite_items::Items;
 use std::alloc::{AllocError, Global};
-use typing_rules::{Fault, TypeStop};
 use vtl_syntax::expr::Rename;
 use vtl_values::Place;
 

@@ -1,19 +1,19 @@
 // `sub`.
 ghost use Rattle.std.specs.Prelude.{◌≡◌, true, Ok, IfOk, IfErr};
 ghost use Rattle.vtl_values.specs.declared.kind.Role.TheVariants.{Identifier};
-ghost use Rattle.typing_rules.specs.Steps.{Refuses};
-ghost use Rattle.clause_trees.specs.Frames as frames;
-ghost use Rattle.clause_trees.specs.Clauses as meant;
-ghost use Rattle.clause_trees.specs.WellTyped.{is_well_typed};
+ghost use Rattle.scalar_trees.specs.typing.Steps.{Refuses};
+ghost use Rattle.data_set_trees.specs.clauses.Frames as frames;
+ghost use Rattle.data_set_trees.specs.clauses.Clauses as meant;
+ghost use Rattle.data_set_trees.specs.clauses.WellTyped.{is_well_typed};
 
 use crate::demanded::demands;
 use crate::names::bare_number_of;
 use crate::numbers::has_role;
-use clause_trees::{CheckedClause, CheckedSubItem, Frame};
+use data_set_trees::clauses::{CheckedClause, CheckedSubItem, Frame};
+use scalar_trees::typing::{Fault, TypeStop};
 use scalar_trees::{agreed, any_kind, is_present, literal_kind};
 use sqlite_items::Items;
 use std::alloc::{AllocError, Global};
-use typing_rules::{Fault, TypeStop};
 use vtl_syntax::expr::SubItem;
 use vtl_values::{Component, Place, Role, Value};
 

@@ -1,17 +1,17 @@
 // `unpivot`.
 ghost use Rattle.std.specs.Prelude.{◌≡◌, true, Ok, IfOk, IfErr};
 ghost use Rattle.scalar_trees.specs.WellTyped as kinds;
-ghost use Rattle.typing_rules.specs.Steps.{Refuses};
-ghost use Rattle.clause_trees.specs.Clauses as meant;
-ghost use Rattle.clause_trees.specs.WellTyped.{is_well_typed};
+ghost use Rattle.scalar_trees.specs.typing.Steps.{Refuses};
+ghost use Rattle.data_set_trees.specs.clauses.Clauses as meant;
+ghost use Rattle.data_set_trees.specs.clauses.WellTyped.{is_well_typed};
 
 use crate::after::{measure_kind, unpivoted};
 use crate::demanded::{demands, has_room};
 use crate::differ::names_differ;
 use crate::numbers::has_role;
-use clause_trees::{CheckedClause, Frame};
+use data_set_trees::clauses::{CheckedClause, Frame};
+use scalar_trees::typing::{Fault, TypeStop};
 use std::alloc::Global;
-use typing_rules::{Fault, TypeStop};
 use vtl_values::{Component, Kind, Place, Role, Word};
 
 fn is_kind(kind: Kind, other: Kind) -> bool

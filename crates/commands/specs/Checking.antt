@@ -6,8 +6,8 @@ use Rattle.vtl_values.specs.declared.kind.Kind.TheVariants.{Integer, Number, Tex
 use Rattle.vtl_values.specs.declared.kind.Role.{Role}
 use Rattle.vtl_values.specs.declared.kind.Role.TheVariants.{Identifier, Measure, Attribute, Viral}
 use Rattle.vtl_values.specs.declared.structure.Component.{Component}
-use Rattle.checked_trees.specs.declared.script.CheckedStatement.{CheckedStatement}
-use Rattle.checked_trees.specs.Scripts.{Script}
+use Rattle.data_set_trees.specs.declared.checked.script.CheckedStatement.{CheckedStatement}
+use Rattle.data_set_trees.specs.checked.Scripts.{Script}
 use Rattle.round_runs.specs.Answers.{Answer}
 use Rattle.round_runs.specs.Lines.{line}
 

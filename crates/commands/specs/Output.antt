@@ -1,9 +1,9 @@
 -- What the program writes, and the status it ends with, for its words and the files.
 use Rattle.std.specs.Prelude.{ℕ, List, Ok, Err}
 use Rattle.outside.specs.Shelves.{Files}
-use Rattle.checked_trees.specs.Scripts.{Script}
+use Rattle.data_set_trees.specs.checked.Scripts.{Script}
 use Rattle.point_sets.specs.declared.revision.Revision.{Revision}
-use Rattle.round_core.specs.Seen.{Seen}
+use Rattle.round_runs.specs.Seen.{Seen}
 use Rattle.round_runs.specs.Answers.{Answer}
 use Rattle.commands.specs.Stages.{Stage, after, answer}
 use Rattle.commands.specs.Structures.{structures_in}

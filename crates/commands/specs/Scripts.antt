@@ -19,14 +19,14 @@ use Rattle.script_graph.specs.declared.fault.GraphFault.{GraphFault}
 use Rattle.script_graph.specs.declared.fault.GraphFault.TheVariants as graph
 use Rattle.script_graph.specs.declared.fault.PlacedFault.{PlacedFault as PlacedGraphFault}
 use Rattle.script_graph.specs.Faults.{first_fault}
-use Rattle.checked_trees.specs.Scripts.{Script}
+use Rattle.data_set_trees.specs.checked.Scripts.{Script}
 use Rattle.vtl_values.specs.Structures.{NamedStructures}
 use Rattle.typed_forms.specs.Forms.{can_be_typed}
 use Rattle.script_typing.specs.Scripts.{typed_of}
 use Rattle.built_scripts.specs.Built.{is_script_built}
-use Rattle.typing_rules.specs.declared.stop.Fault.{Fault as TypeFault}
-use Rattle.typing_rules.specs.declared.stop.Fault.TheVariants as types
-use Rattle.typing_rules.specs.declared.stop.Refusal.{Refusal}
+use Rattle.scalar_trees.specs.declared.typing.stop.Fault.{Fault as TypeFault}
+use Rattle.scalar_trees.specs.declared.typing.stop.Fault.TheVariants as types
+use Rattle.scalar_trees.specs.declared.typing.stop.Refusal.{Refusal}
 use Rattle.round_runs.specs.Answers.{Answer}
 use Rattle.commands.specs.Stages.{Stage, after}
 use Rattle.round_runs.specs.Lines.{line}

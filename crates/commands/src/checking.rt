@@ -3,7 +3,7 @@ ghost use Rattle.std.specs.Prelude.{◌≡◌, ◌++◌, IfOk, OnOk};
 ghost use Rattle.std.specs.List.{flat_map};
 ghost use Rattle.commands.specs.Checking as meant;
 
-use checked_trees::CheckedStatement;
+use data_set_trees::checked::CheckedStatement;
 use std::alloc::{AllocError, Global};
 use vtl_values::{Component, Kind, Role};
 

@@ -13,7 +13,7 @@ use crate::stop::Stop;
 use crate::structures::structures_in;
 use crate::words::not_built;
 use built_scripts::{CheckedScript, runnable};
-use checked_trees::TypedScript;
+use data_set_trees::checked::TypedScript;
 use point_sets::Revision;
 use std::alloc::Global;
 

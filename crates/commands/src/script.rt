@@ -10,7 +10,7 @@ use crate::operators::written_out;
 use crate::reading::SCRIPT_LIMIT;
 use crate::stop::{Ending, Stop};
 use crate::typing::structures_of;
-use checked_trees::TypedScript;
+use data_set_trees::checked::TypedScript;
 use std::alloc::{AllocError, Global};
 use vtl_lexer::{LexFault, LexStop, tokens};
 use vtl_parser::{ParseFault, ParseStop, parse};

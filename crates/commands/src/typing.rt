@@ -8,11 +8,11 @@ use crate::graph::{has_order, refused_graph};
 use crate::script::refused;
 use crate::stop::Stop;
 use crate::words::not_built;
-use checked_trees::TypedScript;
+use data_set_trees::checked::TypedScript;
+use scalar_trees::typing::Fault;
 use script_typing::{ScriptStop, check_script};
 use std::alloc::Global;
 use typed_forms::can_be_typed;
-use typing_rules::Fault;
 use vtl_syntax::Script;
 use vtl_values::Structures;
 

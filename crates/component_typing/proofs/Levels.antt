@@ -13,11 +13,11 @@ use Rattle.vtl_syntax.specs.declared.expr.Item.{Item, fold-Item}
 use Rattle.vtl_syntax.specs.declared.expr.JoinOperand.{JoinOperand}
 use Rattle.vtl_syntax.specs.declared.expr.SubstrRange.{SubstrRange}
 use Rattle.scalar_trees.specs.WellTyped.{Kinds}
-use Rattle.typing_rules.specs.declared.scope.Basis.{Basis}
-use Rattle.typing_rules.specs.declared.scope.Scope.{Scope}
-use Rattle.typing_rules.specs.declared.stop.TypeStop.{TypeStop}
-use Rattle.typing_rules.specs.declared.typed.Typed.{Typed}
-use Rattle.typing_rules.specs.Scalars.{Meaning, RangeMeaning, Level, clause_place, step, operand_step, range_step, meaning, operand_meaning, Answer, typed_step, typed}
+use Rattle.scalar_trees.specs.declared.typing.scope.Basis.{Basis}
+use Rattle.scalar_trees.specs.declared.typing.scope.Scope.{Scope}
+use Rattle.scalar_trees.specs.declared.typing.stop.TypeStop.{TypeStop}
+use Rattle.scalar_trees.specs.declared.typing.typed.Typed.{Typed}
+use Rattle.scalar_trees.specs.typing.Scalars.{Meaning, RangeMeaning, Level, clause_place, step, operand_step, range_step, meaning, operand_meaning, Answer, typed_step, typed}
 use Rattle.component_typing.specs.Parts.{Answers, range_meaning}
 
 abbrev clause_meaning : Clause → Place

@@ -2,20 +2,20 @@
 use Rattle.std.proofs.Common.{◌≡◌, Bool, true, Option, None, Result, Some, Ok, Err, IfOk, IfErr, IsErrAnd, refl, sym, subst, ap, ◌∙◌}
 use Rattle.vtl_values.specs.declared.kind.Kind.{Kind}
 use Rattle.scalar_trees.specs.WellTyped.{Kinds, is_exactly, is_of_kind}
-use Rattle.typing_rules.specs.declared.stop.Refusal.{Refusal}
-use Rattle.typing_rules.specs.declared.stop.TypeStop.{TypeStop}
-use Rattle.typing_rules.specs.declared.stop.TypeStop.TheVariants.{Refused, Memory}
-use Rattle.typing_rules.specs.declared.typed.Typed.{Typed}
-use Rattle.typing_rules.specs.Steps.{◌>>=◌, Refuses}
-use Rattle.typing_rules.specs.Sound.{IsTyped}
-use Rattle.typing_rules.specs.declared.scope.Basis.{Basis}
-use Rattle.typing_rules.specs.declared.scope.Scope.{Scope}
-use Rattle.typing_rules.specs.Resolved.{resolved}
-use Rattle.typing_rules.proofs.Erasing.{erasing}
+use Rattle.scalar_trees.specs.declared.typing.stop.Refusal.{Refusal}
+use Rattle.scalar_trees.specs.declared.typing.stop.TypeStop.{TypeStop}
+use Rattle.scalar_trees.specs.declared.typing.stop.TypeStop.TheVariants.{Refused, Memory}
+use Rattle.scalar_trees.specs.declared.typing.typed.Typed.{Typed}
+use Rattle.scalar_trees.specs.typing.Steps.{◌>>=◌, Refuses}
+use Rattle.scalar_trees.specs.typing.Sound.{IsTyped}
+use Rattle.scalar_trees.specs.declared.typing.scope.Basis.{Basis}
+use Rattle.scalar_trees.specs.declared.typing.scope.Scope.{Scope}
+use Rattle.scalar_trees.specs.typing.Resolved.{resolved}
+use Rattle.scalar_trees.proofs.typing.Erasing.{erasing}
 use Rattle.scalar_trees.specs.Erased.{erased}
 use Rattle.vtl_syntax.specs.declared.expr.Expr.{Expr}
-use Rattle.typing_rules.specs.Scalars.{Answer, typed, whole_kind}
-use Rattle.typing_rules.proofs.Sound.{is_kind-refl}
+use Rattle.scalar_trees.specs.typing.Scalars.{Answer, typed, whole_kind}
+use Rattle.scalar_trees.proofs.typing.Sound.{is_kind-refl}
 use Rattle.component_typing.specs.Parts.{Answers}
 
 -- the same, where the meaning is the same

@@ -2,13 +2,13 @@
 use Rattle.std.proofs.Common.{◌≡◌, ℕ, ◌+◌, ◌<◌, List, [], ◌∷◌, ◌++◌, length, map, take, drop, get_or, Result, Ok, Err, refl, sym, ap, ◌∙◌, add-one}
 use Rattle.std.proofs.Math.Seq.{take-suc}
 use Rattle.std.proofs.lemmas.List.{map-append, take-append-drop}
-use Rattle.typing_rules.specs.declared.scope.Basis.{Basis}
-use Rattle.typing_rules.specs.declared.scope.Scope.{Scope}
-use Rattle.typing_rules.specs.declared.stop.Refusal.{Refusal}
-use Rattle.typing_rules.specs.declared.stop.TypeStop.{TypeStop}
-use Rattle.typing_rules.specs.declared.stop.TypeStop.TheVariants.{Refused, Memory}
-use Rattle.typing_rules.specs.Steps.{◌>>=◌, Refuses}
-use Rattle.typing_rules.specs.Scalars.{Answer, Meaning, visited}
+use Rattle.scalar_trees.specs.declared.typing.scope.Basis.{Basis}
+use Rattle.scalar_trees.specs.declared.typing.scope.Scope.{Scope}
+use Rattle.scalar_trees.specs.declared.typing.stop.Refusal.{Refusal}
+use Rattle.scalar_trees.specs.declared.typing.stop.TypeStop.{TypeStop}
+use Rattle.scalar_trees.specs.declared.typing.stop.TypeStop.TheVariants.{Refused, Memory}
+use Rattle.scalar_trees.specs.typing.Steps.{◌>>=◌, Refuses}
+use Rattle.scalar_trees.specs.typing.Scalars.{Answer, Meaning, visited}
 
 module _ (scope : Scope) (basis : Basis) where
   abbrev pub Visit : Type 0

@@ -6,14 +6,14 @@ use Rattle.vtl_values.specs.declared.place.Place.{Place}
 use Rattle.vtl_syntax.specs.declared.expr.Expr.{Expr, size-Expr}
 use Rattle.vtl_syntax.specs.declared.expr.SubstrRange.{SubstrRange, fold-SubstrRange}
 use Rattle.scalar_trees.specs.WellTyped.{Kinds}
-use Rattle.typing_rules.specs.declared.scope.Basis.{Basis}
-use Rattle.typing_rules.specs.declared.scope.Scope.{Scope}
-use Rattle.typing_rules.specs.declared.stop.TypeStop.{TypeStop}
-use Rattle.typing_rules.specs.declared.typed.Typed.{Typed}
-use Rattle.typing_rules.specs.Steps.{◌>>=◌, Refuses}
-use Rattle.typing_rules.specs.Sound.{IsTyped}
-use Rattle.typing_rules.specs.Scopes.{kinds_of}
-use Rattle.typing_rules.specs.Scalars.{Answer, substr_typed, Meaning, RangeMeaning, clause_place, step, operand_step, range_step, meaning, typed, typed_if}
+use Rattle.scalar_trees.specs.declared.typing.scope.Basis.{Basis}
+use Rattle.scalar_trees.specs.declared.typing.scope.Scope.{Scope}
+use Rattle.scalar_trees.specs.declared.typing.stop.TypeStop.{TypeStop}
+use Rattle.scalar_trees.specs.declared.typing.typed.Typed.{Typed}
+use Rattle.scalar_trees.specs.typing.Steps.{◌>>=◌, Refuses}
+use Rattle.scalar_trees.specs.typing.Sound.{IsTyped}
+use Rattle.scalar_trees.specs.typing.Scopes.{kinds_of}
+use Rattle.scalar_trees.specs.typing.Scalars.{Answer, substr_typed, Meaning, RangeMeaning, clause_place, step, operand_step, range_step, meaning, typed, typed_if}
 
 -- the checked tree with its kind, well typed, or the first fault, or want of memory
 pub record Answers (kinds : Kinds) (meaning : Answer) (result : Result Typed TypeStop) : Type 0 where

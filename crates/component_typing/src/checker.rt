@@ -1,14 +1,14 @@
 // What types one level of an expression, and the expressions inside.
 ghost use Rattle.std.specs.Prelude.{◌≡◌, ◌<◌, ◌∷◌, [], Ok, IfOk, IfErr};
 ghost use Rattle.vtl_syntax.specs.declared.expr.Expr.{size-Expr};
-ghost use Rattle.typing_rules.specs.Steps.{Refuses};
-ghost use Rattle.typing_rules.specs.Scopes.{kinds_of};
-ghost use Rattle.typing_rules.specs.Scalars as meant;
+ghost use Rattle.scalar_trees.specs.typing.Steps.{Refuses};
+ghost use Rattle.scalar_trees.specs.typing.Scopes.{kinds_of};
+ghost use Rattle.scalar_trees.specs.typing.Scalars as meant;
 ghost use Rattle.component_typing.specs.Parts.{Answers, TypesParts};
 
+use scalar_trees::typing::{Basis, Scope, TypeStop, Typed};
 use sqlite_items::Boxed;
 use std::alloc::Global;
-use typing_rules::{Basis, Scope, TypeStop, Typed};
 use vtl_syntax::Expr;
 
 /// Types one level of an expression; `expression` types each expression that stands in it. So each function is proved by

@@ -3,19 +3,19 @@ ghost use Rattle.std.specs.Prelude.{◌≡◌, ◌<◌, option_and_then, Ok, IfO
 ghost use Rattle.std.specs.Option.{option_map};
 ghost use Rattle.vtl_syntax.specs.declared.expr.Expr.{size-Expr};
 ghost use Rattle.vtl_syntax.specs.declared.expr.SubstrRange.{size-SubstrRange};
-ghost use Rattle.typing_rules.specs.Steps.{Refuses};
-ghost use Rattle.typing_rules.specs.Scopes.{kinds_of};
-ghost use Rattle.typing_rules.specs.Sound.{IsTypedIf};
-ghost use Rattle.typing_rules.specs.Scalars as meant;
+ghost use Rattle.scalar_trees.specs.typing.Steps.{Refuses};
+ghost use Rattle.scalar_trees.specs.typing.Scopes.{kinds_of};
+ghost use Rattle.scalar_trees.specs.typing.Sound.{IsTypedIf};
+ghost use Rattle.scalar_trees.specs.typing.Scalars as meant;
 ghost use Rattle.component_typing.specs.Parts.{Answers, TypesParts, if_some, after_typed, after_optional, range_meaning, substr_meaning};
 
 use crate::checker::Checker;
 use operator_typing::{
     between_typed, if_typed, in_typed, matches_typed, replace_typed, substr_typed,
 };
+use scalar_trees::typing::{Basis, Scope, TypeStop, Typed};
 use sqlite_items::Boxed;
 use std::alloc::Global;
-use typing_rules::{Basis, Scope, TypeStop, Typed};
 use vtl_syntax::words::InSign;
 use vtl_syntax::{Expr, SubstrRange};
 use vtl_values::{Place, Value, Word};

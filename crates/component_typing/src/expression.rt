@@ -4,17 +4,17 @@ ghost use Rattle.vtl_values.specs.declared.kind.Kind.{Kind};
 ghost use Rattle.scalar_trees.specs.declared.tree.CheckedExpr.{CheckedExpr};
 ghost use Rattle.scalar_trees.specs.Erased.{erased};
 ghost use Rattle.scalar_trees.specs.WellTyped.{is_of_kind};
-ghost use Rattle.typing_rules.specs.Steps.{Refuses};
-ghost use Rattle.typing_rules.specs.Scopes.{kinds_of};
-ghost use Rattle.typing_rules.specs.Sound.{IsTyped};
-ghost use Rattle.typing_rules.specs.Resolved.{resolved};
-ghost use Rattle.typing_rules.specs.Scalars as meant;
+ghost use Rattle.scalar_trees.specs.typing.Steps.{Refuses};
+ghost use Rattle.scalar_trees.specs.typing.Scopes.{kinds_of};
+ghost use Rattle.scalar_trees.specs.typing.Sound.{IsTyped};
+ghost use Rattle.scalar_trees.specs.typing.Resolved.{resolved};
+ghost use Rattle.scalar_trees.specs.typing.Scalars as meant;
 ghost use Rattle.component_typing.specs.Parts.{Answers};
 
 use crate::checker::Checker;
 use scalar_trees::CheckedExpr;
+use scalar_trees::typing::{Basis, Scope, TypeStop, Typed};
 use std::alloc::Global;
-use typing_rules::{Basis, Scope, TypeStop, Typed};
 use vtl_syntax::Expr;
 use vtl_values::Kind;
 

@@ -2,16 +2,16 @@
 ghost use Rattle.std.specs.Prelude.{◌≡◌, ◌<◌};
 ghost use Rattle.std.specs.Option.{option_map};
 ghost use Rattle.vtl_syntax.specs.declared.expr.Expr.{size-Expr};
-ghost use Rattle.typing_rules.specs.declared.scope.Basis.TheVariants.{Point, Group};
-ghost use Rattle.typing_rules.specs.Scopes.{kinds_of};
-ghost use Rattle.typing_rules.specs.Scalars as meant;
+ghost use Rattle.scalar_trees.specs.declared.typing.scope.Basis.TheVariants.{Point, Group};
+ghost use Rattle.scalar_trees.specs.typing.Scopes.{kinds_of};
+ghost use Rattle.scalar_trees.specs.typing.Scalars as meant;
 ghost use Rattle.component_typing.specs.Parts.{Answers, TypesParts, after_typed};
 
 use crate::checker::Checker;
 use operator_typing::{aggregate_typed, component_typed, member};
+use scalar_trees::typing::{Basis, Scope, TypeStop, Typed};
 use sqlite_items::Boxed;
 use std::alloc::Global;
-use typing_rules::{Basis, Scope, TypeStop, Typed};
 use vtl_syntax::Expr;
 use vtl_syntax::words::AggregateFunction;
 use vtl_values::{Place, Word};

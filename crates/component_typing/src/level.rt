@@ -1,8 +1,8 @@
 // One level of an expression.
-ghost use Rattle.typing_rules.specs.Scopes.{kinds_of};
+ghost use Rattle.scalar_trees.specs.typing.Scopes.{kinds_of};
 ghost use Rattle.std.specs.Prelude.{Ok, []};
-ghost use Rattle.typing_rules.specs.Scopes as names;
-ghost use Rattle.typing_rules.specs.Scalars as meant;
+ghost use Rattle.scalar_trees.specs.typing.Scopes as names;
+ghost use Rattle.scalar_trees.specs.typing.Scalars as meant;
 ghost use Rattle.component_typing.specs.Parts.{Answers, TypesParts};
 
 use crate::checker::Checker;
@@ -12,8 +12,8 @@ use operator_typing::{
     prefix_operator, product_operator, sum_operator, unary_operator,
 };
 use scalar_trees::BinaryOperator;
+use scalar_trees::typing::{Basis, Fault, Scope, TypeStop, Typed};
 use std::alloc::Global;
-use typing_rules::{Basis, Fault, Scope, TypeStop, Typed};
 use vtl_syntax::Expr;
 use vtl_values::{Place, Value, Word};
 

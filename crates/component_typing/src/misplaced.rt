@@ -4,15 +4,15 @@ ghost use Rattle.std.specs.Option.{option_map, option_to_list};
 ghost use denote.Param.Weighed.{most};
 ghost use Rattle.vtl_syntax.specs.declared.expr.Expr.{size-Expr};
 ghost use Rattle.vtl_syntax.specs.declared.expr.JoinOperand.{size-JoinOperand};
-ghost use Rattle.typing_rules.specs.Steps.{Refuses};
-ghost use Rattle.typing_rules.specs.Scopes.{kinds_of};
-ghost use Rattle.typing_rules.specs.Scalars as meant;
+ghost use Rattle.scalar_trees.specs.typing.Steps.{Refuses};
+ghost use Rattle.scalar_trees.specs.typing.Scopes.{kinds_of};
+ghost use Rattle.scalar_trees.specs.typing.Scalars as meant;
 ghost use Rattle.component_typing.specs.Parts.{Answers, TypesParts, if_some};
 
 use crate::checker::Checker;
+use scalar_trees::typing::{Basis, Fault, Scope, TypeStop, Typed};
 use sqlite_items::Boxed;
 use std::alloc::Global;
-use typing_rules::{Basis, Fault, Scope, TypeStop, Typed};
 use vtl_syntax::{Clause, Expr, JoinOperand};
 use vtl_values::Place;
 

@@ -1,16 +1,16 @@
 // Operators of one and of two operands.
 ghost use Rattle.std.specs.Prelude.{◌<◌};
 ghost use Rattle.vtl_syntax.specs.declared.expr.Expr.{size-Expr};
-ghost use Rattle.typing_rules.specs.Scopes.{kinds_of};
-ghost use Rattle.typing_rules.specs.Scalars as meant;
+ghost use Rattle.scalar_trees.specs.typing.Scopes.{kinds_of};
+ghost use Rattle.scalar_trees.specs.typing.Scalars as meant;
 ghost use Rattle.component_typing.specs.Parts.{Answers, TypesParts, after_typed};
 
 use crate::checker::Checker;
 use operator_typing::{binary_typed, function_typed, round_typed, sort_typed, unary_typed};
+use scalar_trees::typing::{Basis, Scope, TypeStop, Typed};
 use scalar_trees::{BinaryOperator, UnaryOperator};
 use sqlite_items::Boxed;
 use std::alloc::Global;
-use typing_rules::{Basis, Scope, TypeStop, Typed};
 use vtl_syntax::Expr;
 use vtl_syntax::words::{BinaryFunction, RoundFunction, Sort};
 use vtl_values::{Integer, Place};

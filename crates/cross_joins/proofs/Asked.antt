@@ -32,10 +32,10 @@ use Rattle.held_index.proofs.WantLemmas.{all_whole-plain, contents-all_whole, le
 use Rattle.clause_meaning.proofs.Picked.{AllZip-weaker}
 use Rattle.data_set_trees.specs.declared.tree.DataSetOperator.TheVariants.{Join}
 use Rattle.vtl_syntax.specs.declared.words.JoinFunction.TheVariants.{Cross}
-use Rattle.checked_trees.specs.Operators.{Operator, an_operator}
-use Rattle.join_meaning.specs.Joins.{JoinOn, join_working, points_product}
-use Rattle.join_meaning.specs.Typed.{IsTypedJoinOn}
-use Rattle.join_meaning.proofs.Counted.{too-many}
+use Rattle.data_set_trees.specs.checked.Operators.{Operator, an_operator}
+use Rattle.operator_meaning.specs.joins.Joins.{JoinOn, join_working, points_product}
+use Rattle.operator_meaning.specs.joins.Typed.{IsTypedJoinOn}
+use Rattle.operator_meaning.proofs.joins.Counted.{too-many}
 use Rattle.operator_meaning.specs.Operators.{AreOperands, meaning_of}
 use Rattle.cross_joins.specs.Counts.{combinations_after, count_after_news}
 use Rattle.cross_joins.specs.Noted.{all_combinations, noted_combination}

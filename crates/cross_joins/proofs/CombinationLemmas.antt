@@ -20,9 +20,9 @@ use Rattle.data_model.specs.Maps.{is_listed}
 use Rattle.data_model.proofs.MapLemmas.{tied, tied_to_itself}
 use Rattle.point_sets.specs.Changes.{Changes}
 use Rattle.point_sets.specs.DataSets.{DataSet}
-use Rattle.typing_rules.proofs.Sound.{left, right}
-use Rattle.pair_meaning.proofs.Names.{either-left, either-right}
-use Rattle.join_meaning.proofs.Crossed.{flat, listed-map}
+use Rattle.scalar_trees.proofs.typing.Sound.{left, right}
+use Rattle.operator_meaning.proofs.pairs.Names.{either-left, either-right}
+use Rattle.operator_meaning.proofs.joins.Crossed.{flat, listed-map}
 use Rattle.cross_joins.specs.Combinations.{Combination, changed_combinations, choices, combinations_of, first_changed_at, with_each_first}
 use Rattle.cross_joins.specs.Rows.{RowValues, is_chosen, may_stand}
 use Rattle.cross_joins.specs.declared.rows.Side.{Side}

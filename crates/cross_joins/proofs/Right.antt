@@ -32,12 +32,12 @@ use Rattle.held_index.specs.Drafts.{SetDraft}
 use Rattle.held_index.specs.Rules.{SetOutcome, after_news}
 use Rattle.data_set_trees.specs.Components.{identifiers}
 use Rattle.data_set_trees.specs.Joins.{join_identifiers}
-use Rattle.join_meaning.specs.Joins.{AreKeysOf, JoinOn, all_points, is_key, join_keys, join_meaning, join_on, join_working, joined_point, joined_values, key_components, points_at}
-use Rattle.join_meaning.specs.Typed.{IsTypedJoinOn}
-use Rattle.join_meaning.proofs.Covered.{join-covered}
-use Rattle.join_meaning.proofs.Crossed.{flat, split}
-use Rattle.join_meaning.proofs.Fits.{key-there}
-use Rattle.join_meaning.proofs.Words.{each-at}
+use Rattle.operator_meaning.specs.joins.Joins.{AreKeysOf, JoinOn, all_points, is_key, join_keys, join_meaning, join_on, join_working, joined_point, joined_values, key_components, points_at}
+use Rattle.operator_meaning.specs.joins.Typed.{IsTypedJoinOn}
+use Rattle.operator_meaning.proofs.joins.Covered.{join-covered}
+use Rattle.operator_meaning.proofs.joins.Crossed.{flat, split}
+use Rattle.operator_meaning.proofs.joins.Fits.{key-there}
+use Rattle.operator_meaning.proofs.joins.Words.{each-at}
 use Rattle.cross_joins.specs.Combinations.{Combination, changed_combinations}
 use Rattle.cross_joins.specs.Noted.{noted_combination}
 use Rattle.cross_joins.specs.Rows.{RowValues}

@@ -19,8 +19,8 @@ use Rattle.data_model.proofs.EntryLemmas.{find-get_or}
 use Rattle.data_model.proofs.MapLemmas.{is_listed-keys, tied}
 use Rattle.point_sets.specs.Changes.{Changes}
 use Rattle.point_sets.specs.DataSets.{DataSet}
-use Rattle.typing_rules.proofs.Sound.{both, left}
-use Rattle.pair_meaning.proofs.Names.{either-left, either-right}
+use Rattle.scalar_trees.proofs.typing.Sound.{both, left}
+use Rattle.operator_meaning.proofs.pairs.Names.{either-left, either-right}
 use Rattle.held_index.specs.Walks.{PointValues}
 use Rattle.cross_joins.specs.Rows.{RowValues, changed_row, is_chosen, is_there, kept_row, kept_rows, may_stand, on_side}
 use Rattle.cross_joins.specs.declared.rows.Side.{Side}

@@ -4,7 +4,7 @@ use Rattle.data_model.specs.Drafts.{note_value}
 use Rattle.point_sets.specs.Changes.{Changes, values_eq}
 use Rattle.held_index.specs.Drafts.{SetDraft}
 use Rattle.held_index.specs.Holdings.{Holding}
-use Rattle.join_meaning.specs.Joins.{JoinOn, joined_point}
+use Rattle.operator_meaning.specs.joins.Joins.{JoinOn, joined_point}
 use Rattle.cross_joins.specs.Combinations.{Combination, changed_combinations}
 use Rattle.cross_joins.specs.Rows.{all_rows}
 use Rattle.cross_joins.specs.declared.rows.Side.TheVariants.{Before, After}

@@ -3,11 +3,11 @@ use Rattle.std.specs.Prelude.{◌≡◌, length, List}
 use Rattle.vtl_syntax.specs.declared.words.JoinFunction.TheVariants.{Cross}
 use Rattle.data_set_trees.specs.declared.tree.DataSetOperator.{DataSetOperator}
 use Rattle.data_set_trees.specs.declared.tree.DataSetOperator.TheVariants.{Join}
-use Rattle.checked_trees.specs.Operators.{Operator, an_operator}
+use Rattle.data_set_trees.specs.checked.Operators.{Operator, an_operator}
 use Rattle.held_index.specs.Wants.{all_whole}
 use Rattle.held_index.specs.declared.want.Want.{Want}
-use Rattle.join_meaning.specs.Joins.{JoinOn}
-use Rattle.join_meaning.specs.Typed.{IsTypedJoinOn}
+use Rattle.operator_meaning.specs.joins.Joins.{JoinOn}
+use Rattle.operator_meaning.specs.joins.Typed.{IsTypedJoinOn}
 
 -- a cross join
 abbrev pub IsCross : DataSetOperator → Type 0

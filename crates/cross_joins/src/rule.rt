@@ -1,6 +1,6 @@
 // The rule of a cross join.
 ghost use Rattle.std.specs.Prelude.{◌≡◌, IfOk};
-ghost use Rattle.checked_trees.specs.Operators.{an_operator, IsTyped};
+ghost use Rattle.data_set_trees.specs.checked.Operators.{an_operator, IsTyped};
 ghost use Rattle.cross_joins.specs.Rules.{IsCross, IsCrossOn};
 
 use crate::counts::{are_too_many, is_nothing_new};
@@ -29,7 +29,7 @@ pub struct CrossJoinRule {
 }
 
 impl Model for CrossJoinRule {
-    ghost use Rattle.checked_trees.specs.Operators.{an_operator, operator_coded, Operator};
+    ghost use Rattle.data_set_trees.specs.checked.Operators.{an_operator, operator_coded, Operator};
     ghost use Rattle.cross_joins.specs.Rules.{IsRule};
 
     ghost Value = { Operator };

@@ -1,9 +1,9 @@
 -- Steps of typing, one after the other.
 use Rattle.std.proofs.Common.{◌≡◌, ℕ, ◌+◌, ◌<◌, List, [], ◌∷◌, ◌++◌, Result, Ok, Err, length, get_or, drop, refl, sym, ap, ◌∙◌}
 use Rattle.std.proofs.lemmas.List.{drop_more, append_assoc, append-nil}
-use Rattle.typing_rules.specs.declared.stop.Refusal.{Refusal}
-use Rattle.typing_rules.specs.declared.stop.TypeStop.{TypeStop}
-use Rattle.typing_rules.specs.Steps.{◌>>=◌, Refuses}
+use Rattle.scalar_trees.specs.declared.typing.stop.Refusal.{Refusal}
+use Rattle.scalar_trees.specs.declared.typing.stop.TypeStop.{TypeStop}
+use Rattle.scalar_trees.specs.typing.Steps.{◌>>=◌, Refuses}
 use Rattle.operator_typing.proofs.Steps.{stops_same, stops_there}
 use Rattle.data_set_parts.specs.Walks.{each}
 use Rattle.data_set_parts.proofs.Follows.{assoc}

@@ -12,11 +12,11 @@ use Rattle.vtl_values.specs.declared.kind.Role.TheVariants.{Identifier, Measure,
 use Rattle.vtl_values.specs.declared.structure.Codes.TheVariants.{Any}
 use Rattle.vtl_values.specs.declared.structure.Component.{Component}
 use Rattle.vtl_values.specs.Structures.{IsStructure, FitsCodes, place_of}
-use Rattle.clause_trees.specs.declared.clause.CheckedMeasure.{CheckedMeasure}
-use Rattle.clause_trees.specs.Frames.{is_role, has_role}
-use Rattle.clause_trees.specs.After.{made, always_stays}
-use Rattle.clause_trees.proofs.Parts.{pairs_head, pairs_tail}
-use Rattle.clause_trees.proofs.Ordered.{role_is, pairs_append}
+use Rattle.data_set_trees.specs.declared.clauses.clause.CheckedMeasure.{CheckedMeasure}
+use Rattle.data_set_trees.specs.clauses.Frames.{is_role, has_role}
+use Rattle.data_set_trees.specs.clauses.After.{made, always_stays}
+use Rattle.data_set_trees.proofs.clauses.Parts.{pairs_head, pairs_tail}
+use Rattle.data_set_trees.proofs.clauses.Ordered.{role_is, pairs_append}
 use Rattle.data_set_trees.specs.Components.{identifiers, virals, unlisted, further, has_name, is_taken, names_differ}
 use Rattle.data_set_trees.specs.Lifted.{is_free}
 use Rattle.data_set_trees.specs.Pairs.{measure_component, joined}

@@ -2,11 +2,11 @@
 use Rattle.std.proofs.Common.{◌≡◌, refl, subst, Bool, true, false, List, ◌∷◌, Result, Ok, Err}
 use Rattle.std.specs.Prelude.{IfOk, IfErr}
 use Rattle.vtl_values.specs.declared.place.Place.{Place}
-use Rattle.typing_rules.specs.declared.stop.Fault.{Fault}
-use Rattle.typing_rules.specs.declared.stop.Refusal.{Refusal}
-use Rattle.typing_rules.specs.declared.stop.TypeStop.{TypeStop}
-use Rattle.typing_rules.specs.Steps.{◌>>=◌, Refuses}
-use Rattle.clause_trees.specs.Clauses.{demands}
+use Rattle.scalar_trees.specs.declared.typing.stop.Fault.{Fault}
+use Rattle.scalar_trees.specs.declared.typing.stop.Refusal.{Refusal}
+use Rattle.scalar_trees.specs.declared.typing.stop.TypeStop.{TypeStop}
+use Rattle.scalar_trees.specs.typing.Steps.{◌>>=◌, Refuses}
+use Rattle.data_set_trees.specs.clauses.Clauses.{demands}
 
 pub assoc : {A B C : Type 0} (m : Result A Refusal) (f : A → Result B Refusal) (g : B → Result C Refusal) → ((m >>= f) >>= g) ≡ (m >>= (λ x. f x >>= g))
 assoc (Ok x) f g = refl

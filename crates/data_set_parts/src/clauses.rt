@@ -6,8 +6,8 @@ ghost use Rattle.data_set_parts.specs.Results as own;
 
 use crate::nodes::applied;
 use crate::results::listed_unlisted;
-use clause_trees::CheckedClause;
 use clause_typing::{frame_after, frame_of};
+use data_set_trees::clauses::CheckedClause;
 use data_set_trees::{DataSet, DataSetOperator};
 use sqlite_items::Items;
 use std::alloc::{AllocError, Global};

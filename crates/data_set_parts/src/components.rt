@@ -4,7 +4,7 @@ ghost use Rattle.std.specs.List.{list_any, list_all};
 ghost use Rattle.std.specs.Cmp.Lexicographic.{pointwise};
 ghost use Rattle.vtl_values.specs.Texts.{same_text};
 ghost use Rattle.scalar_trees.specs.WellTyped as kinds;
-ghost use Rattle.clause_trees.specs.Frames as frames;
+ghost use Rattle.data_set_trees.specs.clauses.Frames as frames;
 ghost use Rattle.data_set_trees.specs.Components as meant;
 
 use data_set_trees::Measure;

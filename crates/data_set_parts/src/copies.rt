@@ -3,9 +3,9 @@ ghost use Rattle.std.specs.Prelude.{◌≡◌, IfOk};
 ghost use Rattle.data_set_parts.specs.Shapes.{shape_of, leaf, one_operand, with_values, operands, on_texts};
 
 use scalar_trees::CheckedExpr;
+use scalar_trees::typing::Typed;
 use sqlite_items::{Boxed, Items};
 use std::alloc::{AllocError, Global};
-use typing_rules::Typed;
 use vtl_values::Value;
 
 /// A copy of the values, or want of memory.

@@ -1,9 +1,9 @@
 // What is demanded of operands.
 ghost use Rattle.std.specs.Prelude.{◌≡◌, Ok, IfOk, IfErr};
-ghost use Rattle.typing_rules.specs.Steps.{Refuses};
-ghost use Rattle.clause_trees.specs.Clauses as meant;
+ghost use Rattle.scalar_trees.specs.typing.Steps.{Refuses};
+ghost use Rattle.data_set_trees.specs.clauses.Clauses as meant;
 
-use typing_rules::{Fault, TypeStop, demand};
+use scalar_trees::typing::{Fault, TypeStop, demand};
 use vtl_values::Place;
 
 /// The fault of the first demand that isn't met.

@@ -1,13 +1,13 @@
 // The components of results.
 ghost use Rattle.std.specs.Prelude.{◌≡◌, ◌++◌, true, filter, map, IfOk, OnOk};
 ghost use Rattle.vtl_values.specs.declared.kind.Role.TheVariants as role;
-ghost use Rattle.clause_trees.specs.After as after;
+ghost use Rattle.data_set_trees.specs.clauses.After as after;
 ghost use Rattle.data_set_trees.specs.Components as meant;
 ghost use Rattle.data_set_trees.specs.Pairs as pairs;
 ghost use Rattle.data_set_parts.specs.Joins as own;
 
 use crate::components::{further, of_role, unlisted};
-use clause_trees::CheckedMeasure;
+use data_set_trees::clauses::CheckedMeasure;
 use sqlite_items::Items;
 use std::alloc::{AllocError, Global};
 use vtl_values::{Codes, Component, Kind, Role, Word};

@@ -5,8 +5,8 @@ ghost use Rattle.data_set_trees.specs.Pairs as pairs;
 
 use data_set_trees::Measure;
 use scalar_trees::CheckedExpr;
+use scalar_trees::typing::{Slot, Typed};
 use std::alloc::AllocError;
-use typing_rules::{Slot, Typed};
 use vtl_values::{Value, Word};
 
 /// The measure as the component that it is.

@@ -1,14 +1,14 @@
 // The structures of results.
 ghost use Rattle.std.specs.Prelude.{◌≡◌, true, Ok, map, IfOk, IfErr};
 ghost use Rattle.vtl_values.specs.Structures.{IsStructure};
-ghost use Rattle.typing_rules.specs.Steps.{Refuses};
+ghost use Rattle.scalar_trees.specs.typing.Steps.{Refuses};
 ghost use Rattle.data_set_trees.specs.Components as parts;
 ghost use Rattle.data_set_trees.specs.Pairs as meant;
 
 use crate::components::{names_differ, unlisted};
 use crate::demands::demands;
+use scalar_trees::typing::{Fault, TypeStop};
 use std::alloc::{AllocError, Global};
-use typing_rules::{Fault, TypeStop};
 use vtl_values::{Component, Place, Structure};
 
 /// The same components, to make a structure of.

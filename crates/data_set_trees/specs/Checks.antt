@@ -9,7 +9,7 @@ use Rattle.vtl_values.specs.declared.kind.Role.TheVariants as role
 use Rattle.vtl_values.specs.declared.structure.Component.{Component}
 use Rattle.scalar_trees.specs.Kinds.{NUMERIC, agreed}
 use Rattle.scalar_trees.specs.WellTyped.{is_kind}
-use Rattle.clause_trees.specs.After.{made}
+use Rattle.data_set_trees.specs.clauses.After.{made}
 use Rattle.data_set_trees.specs.declared.measure.Measure.{Measure}
 use Rattle.data_set_trees.specs.Components.{identifiers, virals, measures, further, include, virals_agree, unlisted, BOOL_VAR}
 

@@ -7,13 +7,13 @@ use Rattle.vtl_values.specs.declared.kind.Role.TheVariants as role
 use Rattle.vtl_values.specs.declared.place.Place.{Place}
 use Rattle.vtl_values.specs.declared.structure.Component.{Component}
 use Rattle.scalar_trees.specs.Kinds.{ANY, agreed}
-use Rattle.typing_rules.specs.declared.stop.Fault.TheVariants.{WrongType, WrongStructure}
-use Rattle.typing_rules.specs.declared.stop.Refusal.{Refusal}
-use Rattle.typing_rules.specs.declared.typed.Typed.{Typed}
-use Rattle.typing_rules.specs.Scalars.{agreeing, if_typed}
-use Rattle.typing_rules.specs.Steps.{◌>>=◌}
-use Rattle.clause_trees.specs.After.{made}
-use Rattle.clause_trees.specs.Clauses.{demands}
+use Rattle.scalar_trees.specs.declared.typing.stop.Fault.TheVariants.{WrongType, WrongStructure}
+use Rattle.scalar_trees.specs.declared.typing.stop.Refusal.{Refusal}
+use Rattle.scalar_trees.specs.declared.typing.typed.Typed.{Typed}
+use Rattle.scalar_trees.specs.typing.Scalars.{agreeing, if_typed}
+use Rattle.scalar_trees.specs.typing.Steps.{◌>>=◌}
+use Rattle.data_set_trees.specs.clauses.After.{made}
+use Rattle.data_set_trees.specs.clauses.Clauses.{demands}
 use Rattle.data_set_trees.specs.declared.measure.Measure.{Measure}
 use Rattle.data_set_trees.specs.declared.operand.DataSet.{DataSet}
 use Rattle.data_set_trees.specs.declared.operand.Operand.{Operand}

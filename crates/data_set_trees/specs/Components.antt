@@ -10,7 +10,7 @@ use Rattle.vtl_values.specs.declared.structure.Codes.{Codes}
 use Rattle.vtl_values.specs.declared.structure.Codes.TheVariants.{Any, Listed}
 use Rattle.vtl_values.specs.declared.structure.Component.{Component}
 use Rattle.scalar_trees.specs.WellTyped.{is_kind}
-use Rattle.clause_trees.specs.Frames.{is_role, has_role}
+use Rattle.data_set_trees.specs.clauses.Frames.{is_role, has_role}
 use Rattle.data_set_trees.specs.declared.measure.Measure as declared
 
 -- what a component of a result is: it has no code list, viral attributes aside

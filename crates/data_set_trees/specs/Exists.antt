@@ -9,9 +9,9 @@ use Rattle.vtl_values.specs.declared.structure.Component.{Component}
 use Rattle.vtl_syntax.specs.declared.words.ExistsRows.{ExistsRows}
 use Rattle.vtl_syntax.specs.declared.words.ExistsRows.TheVariants.{All}
 use Rattle.scalar_trees.specs.WellTyped.{is_kind}
-use Rattle.typing_rules.specs.declared.stop.Fault.TheVariants.{WrongStructure}
-use Rattle.typing_rules.specs.Steps.{◌>>=◌, demanded, refused}
-use Rattle.clause_trees.specs.After.{made}
+use Rattle.scalar_trees.specs.declared.typing.stop.Fault.TheVariants.{WrongStructure}
+use Rattle.scalar_trees.specs.typing.Steps.{◌>>=◌, demanded, refused}
+use Rattle.data_set_trees.specs.clauses.After.{made}
 use Rattle.data_set_trees.specs.declared.operand.Operand.{Operand}
 use Rattle.data_set_trees.specs.declared.operand.Operand.TheVariants as operand
 use Rattle.data_set_trees.specs.declared.tree.DataSetOperator.TheVariants as operator

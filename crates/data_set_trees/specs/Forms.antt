@@ -5,10 +5,10 @@ use Rattle.scalar_trees.specs.declared.operators.UnaryOperator.{UnaryOperator}
 use Rattle.scalar_trees.specs.declared.operators.UnaryOperator.TheVariants as unary
 use Rattle.scalar_trees.specs.declared.operators.BinaryOperator.{BinaryOperator}
 use Rattle.scalar_trees.specs.declared.operators.BinaryOperator.TheVariants as binary
-use Rattle.typing_rules.specs.declared.stop.Fault.TheVariants.{WrongStructure}
-use Rattle.typing_rules.specs.declared.typed.Typed.{Typed}
-use Rattle.typing_rules.specs.Scalars.{Answer, unary_typed, binary_typed, nvl_typed, if_typed, in_typed, between_typed, round_typed, substr_typed, replace_typed, matches_typed}
-use Rattle.typing_rules.specs.Steps.{refused}
+use Rattle.scalar_trees.specs.declared.typing.stop.Fault.TheVariants.{WrongStructure}
+use Rattle.scalar_trees.specs.declared.typing.typed.Typed.{Typed}
+use Rattle.scalar_trees.specs.typing.Scalars.{Answer, unary_typed, binary_typed, nvl_typed, if_typed, in_typed, between_typed, round_typed, substr_typed, replace_typed, matches_typed}
+use Rattle.scalar_trees.specs.typing.Steps.{refused}
 use Rattle.data_set_trees.specs.declared.form.Form.{Form}
 use Rattle.data_set_trees.specs.declared.form.Form.TheVariants as form
 use Rattle.data_set_trees.specs.Components.{BOOL_VAR, INT_VAR, STRING_VAR}

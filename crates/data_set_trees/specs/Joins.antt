@@ -13,10 +13,10 @@ use Rattle.vtl_syntax.specs.declared.expr.JoinOperand.{JoinOperand, out-JoinOper
 use Rattle.vtl_syntax.specs.declared.expr.Groups.{Groups}
 use Rattle.vtl_syntax.specs.declared.expr.Item.{Item}
 use Rattle.vtl_syntax.specs.declared.expr.SubstrRange.{SubstrRange}
-use Rattle.typing_rules.specs.declared.scope.ScopeName.{ScopeName}
-use Rattle.clause_trees.specs.declared.frame.Frame.{Frame}
-use Rattle.clause_trees.specs.Frames.{has_role}
-use Rattle.clause_trees.specs.Clauses as clauses
+use Rattle.scalar_trees.specs.declared.typing.scope.ScopeName.{ScopeName}
+use Rattle.data_set_trees.specs.declared.clauses.frame.Frame.{Frame}
+use Rattle.data_set_trees.specs.clauses.Frames.{has_role}
+use Rattle.data_set_trees.specs.clauses.Clauses as clauses
 use Rattle.data_set_trees.specs.declared.operand.DataSet.{DataSet}
 use Rattle.data_set_trees.specs.Components.{identifiers, virals, further, is_taken, include, virals_agree}
 

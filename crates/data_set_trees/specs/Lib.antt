@@ -11,3 +11,9 @@ pub mod Choices
 pub mod Checks
 pub mod Joins
 pub mod Examples
+pub mod clauses
+pub mod aggregates
+pub mod windows
+pub mod times
+pub mod rules
+pub mod checked

@@ -4,11 +4,11 @@ use Rattle.vtl_values.specs.declared.kind.Role.TheVariants.{Measure}
 use Rattle.vtl_values.specs.declared.place.Place.{Place}
 use Rattle.vtl_values.specs.declared.structure.Component.{Component}
 use Rattle.scalar_trees.specs.declared.tree.CheckedExpr.TheVariants as tree
-use Rattle.typing_rules.specs.declared.stop.Fault.TheVariants.{UnknownComponent, WrongStructure, NameTwice}
-use Rattle.typing_rules.specs.Steps.{◌>>=◌, or_refused, demanded, refused}
-use Rattle.clause_trees.specs.declared.clause.CheckedMeasure.{CheckedMeasure}
-use Rattle.clause_trees.specs.declared.clause.CheckedClause.TheVariants as clause
-use Rattle.clause_trees.specs.Frames.{has_role}
+use Rattle.scalar_trees.specs.declared.typing.stop.Fault.TheVariants.{UnknownComponent, WrongStructure, NameTwice}
+use Rattle.scalar_trees.specs.typing.Steps.{◌>>=◌, or_refused, demanded, refused}
+use Rattle.data_set_trees.specs.declared.clauses.clause.CheckedMeasure.{CheckedMeasure}
+use Rattle.data_set_trees.specs.declared.clauses.clause.CheckedClause.TheVariants as clause
+use Rattle.data_set_trees.specs.clauses.Frames.{has_role}
 use Rattle.data_set_trees.specs.declared.operand.Operand.{Operand}
 use Rattle.data_set_trees.specs.declared.operand.Operand.TheVariants as operand
 use Rattle.data_set_trees.specs.Components.{has_name, name_of_kind}

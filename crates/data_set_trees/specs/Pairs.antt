@@ -5,13 +5,13 @@ use Rattle.vtl_values.specs.Texts.{same_text}
 use Rattle.vtl_values.specs.declared.kind.Role.TheVariants as role
 use Rattle.vtl_values.specs.declared.place.Place.{Place}
 use Rattle.vtl_values.specs.declared.structure.Component.{Component}
-use Rattle.typing_rules.specs.declared.scope.Slot.{Slot}
-use Rattle.typing_rules.specs.declared.stop.Fault.TheVariants.{WrongType, WrongStructure, NameTwice, TooManyComponents}
-use Rattle.typing_rules.specs.declared.stop.Refusal.{Refusal}
-use Rattle.typing_rules.specs.Steps.{◌>>=◌}
-use Rattle.clause_trees.specs.declared.clause.CheckedMeasure.{CheckedMeasure}
-use Rattle.clause_trees.specs.After.{made}
-use Rattle.clause_trees.specs.Clauses.{demands, MOST_COMPONENTS}
+use Rattle.scalar_trees.specs.declared.typing.scope.Slot.{Slot}
+use Rattle.scalar_trees.specs.declared.typing.stop.Fault.TheVariants.{WrongType, WrongStructure, NameTwice, TooManyComponents}
+use Rattle.scalar_trees.specs.declared.typing.stop.Refusal.{Refusal}
+use Rattle.scalar_trees.specs.typing.Steps.{◌>>=◌}
+use Rattle.data_set_trees.specs.declared.clauses.clause.CheckedMeasure.{CheckedMeasure}
+use Rattle.data_set_trees.specs.clauses.After.{made}
+use Rattle.data_set_trees.specs.clauses.Clauses.{demands, MOST_COMPONENTS}
 use Rattle.data_set_trees.specs.declared.form.Form.{Form}
 use Rattle.data_set_trees.specs.declared.measure.Measure.{Measure}
 use Rattle.data_set_trees.specs.declared.operand.DataSet.{DataSet}

@@ -3,8 +3,8 @@ use Rattle.std.specs.Prelude.{List, [], ◌∷◌, map, Option, Some, None, Ok}
 use Rattle.std.specs.List.{list_all}
 use Rattle.std.specs.Option.{option_map}
 use Rattle.vtl_values.specs.declared.place.Place.{Place}
-use Rattle.typing_rules.specs.declared.stop.Fault.TheVariants.{WrongStructure}
-use Rattle.typing_rules.specs.Steps.{◌>>=◌, demanded, or_refused, refused}
+use Rattle.scalar_trees.specs.declared.typing.stop.Fault.TheVariants.{WrongStructure}
+use Rattle.scalar_trees.specs.typing.Steps.{◌>>=◌, demanded, or_refused, refused}
 use Rattle.data_set_trees.specs.declared.operand.DataSet.{DataSet}
 use Rattle.data_set_trees.specs.declared.operand.Operand.{Operand}
 use Rattle.data_set_trees.specs.declared.operand.Operand.TheVariants as operand

@@ -5,8 +5,8 @@ ghost use Rattle.vtl_values.specs.declared.kind.Role.TheVariants.{Identifier, Me
 ghost use Rattle.vtl_syntax.specs.declared.words.RoundFunction.TheVariants as rounding;
 ghost use Rattle.scalar_trees.specs.declared.operators.BinaryOperator.TheVariants as binary;
 ghost use Rattle.scalar_trees.specs.declared.operators.UnaryOperator.TheVariants as unary;
-ghost use Rattle.typing_rules.specs.declared.stop.Fault.TheVariants.{UnknownComponent, WrongType, WrongStructure, NameTwice, BadConstant};
-ghost use Rattle.clause_trees.specs.After.{made};
+ghost use Rattle.scalar_trees.specs.declared.typing.stop.Fault.TheVariants.{UnknownComponent, WrongType, WrongStructure, NameTwice, BadConstant};
+ghost use Rattle.data_set_trees.specs.clauses.After.{made};
 ghost use Rattle.data_set_trees.specs.declared.form.Form.TheVariants as form;
 ghost use Rattle.data_set_trees.specs.declared.tree.SetOperation.TheVariants.{Union};
 ghost use Rattle.data_set_trees.specs.Pairs.{lifted};

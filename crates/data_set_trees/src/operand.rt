@@ -1,6 +1,6 @@
 // Operands.
 use crate::tree::DataSetTree;
-use typing_rules::Typed;
+use scalar_trees::typing::Typed;
 use vtl_values::Structure;
 
 /// A data set: how it is worked out, and its structure.

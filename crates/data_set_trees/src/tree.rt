@@ -1,14 +1,14 @@
 // Trees of operators on data sets.
+use crate::aggregates::CheckedAggregate;
+use crate::clauses::{CheckedClause, CheckedMeasure};
+use crate::rules::{CheckedCheck, CheckedDatapoint, CheckedHierarchy};
 use crate::shared::SharedOperator;
-use aggregate_trees::CheckedAggregate;
-use clause_trees::{CheckedClause, CheckedMeasure};
-use rule_trees::{CheckedCheck, CheckedDatapoint, CheckedHierarchy};
+use crate::times::CheckedTime;
+use crate::windows::CheckedWindow;
 use scalar_trees::CheckedExpr;
 use sqlite_items::Items;
-use time_trees::CheckedTime;
 use vtl_syntax::words::{ExistsRows, JoinFunction};
 use vtl_values::{Kind, Place, Structure, Word};
-use window_trees::CheckedWindow;
 
 /// What a name stands for: an input by its number among the structures, or the result of a statement by its number in
 /// the script, both from 0.

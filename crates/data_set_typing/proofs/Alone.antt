@@ -2,7 +2,7 @@
 use Rattle.std.proofs.Common.{◌≡◌, Bool, ◌&&◌, List, [], ◌∷◌, ◌++◌, Option, Some, None, map, refl, sym, ◌∙◌}
 use Rattle.std.proofs.lemmas.List.Folds.{list_all-append, list_all-map}
 use Rattle.vtl_values.specs.declared.place.Place.{Place}
-use Rattle.typing_rules.specs.declared.scope.Slot.{Slot}
+use Rattle.scalar_trees.specs.declared.typing.scope.Slot.{Slot}
 use Rattle.data_set_trees.specs.declared.form.Form.{Form}
 use Rattle.data_set_trees.specs.declared.measure.Measure.{Measure}
 use Rattle.data_set_trees.specs.declared.operand.Operand.{Operand}

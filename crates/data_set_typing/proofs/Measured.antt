@@ -12,17 +12,17 @@ use Rattle.vtl_values.specs.declared.kind.Role.TheVariants.{Identifier, Measure,
 use Rattle.vtl_values.specs.declared.place.Place.{Place}
 use Rattle.vtl_values.specs.declared.structure.Component.{Component}
 use Rattle.vtl_values.specs.Structures.{IsStructure}
-use Rattle.typing_rules.specs.declared.stop.Fault.TheVariants.{WrongType, WrongStructure, NameTwice}
-use Rattle.typing_rules.specs.declared.typed.Typed.{Typed}
-use Rattle.typing_rules.specs.Steps.{◌>>=◌}
-use Rattle.clause_trees.specs.declared.clause.CheckedMeasure.{CheckedMeasure}
-use Rattle.clause_trees.specs.declared.clause.CheckedClause.TheVariants as clause
-use Rattle.clause_trees.specs.declared.frame.Frame.{Frame}
-use Rattle.clause_trees.specs.Frames.{has_role, frame_of, numbers_of}
-use Rattle.clause_trees.specs.After.{made, with_measure, staying, measured}
-use Rattle.clause_trees.specs.Laws.{FitTogether}
-use Rattle.clause_trees.proofs.Parts.{left_from, picked_are, pairs_head, pairs_tail}
-use Rattle.clause_trees.proofs.Ordered.{role_is, pairs_append, orders_structures}
+use Rattle.scalar_trees.specs.declared.typing.stop.Fault.TheVariants.{WrongType, WrongStructure, NameTwice}
+use Rattle.scalar_trees.specs.declared.typing.typed.Typed.{Typed}
+use Rattle.scalar_trees.specs.typing.Steps.{◌>>=◌}
+use Rattle.data_set_trees.specs.declared.clauses.clause.CheckedMeasure.{CheckedMeasure}
+use Rattle.data_set_trees.specs.declared.clauses.clause.CheckedClause.TheVariants as clause
+use Rattle.data_set_trees.specs.declared.clauses.frame.Frame.{Frame}
+use Rattle.data_set_trees.specs.clauses.Frames.{has_role, frame_of, numbers_of}
+use Rattle.data_set_trees.specs.clauses.After.{made, with_measure, staying, measured}
+use Rattle.data_set_trees.specs.clauses.Laws.{FitTogether}
+use Rattle.data_set_trees.proofs.clauses.Parts.{left_from, picked_are, pairs_head, pairs_tail}
+use Rattle.data_set_trees.proofs.clauses.Ordered.{role_is, pairs_append, orders_structures}
 use Rattle.data_set_trees.specs.declared.form.Form.{Form}
 use Rattle.data_set_trees.specs.declared.measure.Measure as declared
 use Rattle.data_set_trees.specs.declared.operand.Operand.{Operand}

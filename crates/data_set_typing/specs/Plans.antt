@@ -2,13 +2,13 @@
 use Rattle.std.specs.Prelude.{ℕ, Bool, ◌&&◌, List, [], ◌∷◌, map, length, Option, Some, unwrap_or, Result, Ok, if◌then◌else◌}
 use Rattle.vtl_values.specs.declared.place.Place.{Place}
 use Rattle.vtl_values.specs.declared.structure.Component.{Component}
-use Rattle.typing_rules.specs.declared.scope.Slot.{Slot}
-use Rattle.typing_rules.specs.declared.stop.Fault.TheVariants.{WrongType, WrongStructure, NameTwice}
-use Rattle.typing_rules.specs.declared.stop.Refusal.{Refusal}
-use Rattle.typing_rules.specs.Steps.{◌>>=◌, refused}
-use Rattle.clause_trees.specs.declared.clause.CheckedMeasure.{CheckedMeasure}
-use Rattle.clause_trees.specs.declared.clause.CheckedClause.TheVariants as clause
-use Rattle.clause_trees.specs.Clauses.{demands}
+use Rattle.scalar_trees.specs.declared.typing.scope.Slot.{Slot}
+use Rattle.scalar_trees.specs.declared.typing.stop.Fault.TheVariants.{WrongType, WrongStructure, NameTwice}
+use Rattle.scalar_trees.specs.declared.typing.stop.Refusal.{Refusal}
+use Rattle.scalar_trees.specs.typing.Steps.{◌>>=◌, refused}
+use Rattle.data_set_trees.specs.declared.clauses.clause.CheckedMeasure.{CheckedMeasure}
+use Rattle.data_set_trees.specs.declared.clauses.clause.CheckedClause.TheVariants as clause
+use Rattle.data_set_trees.specs.clauses.Clauses.{demands}
 use Rattle.data_set_trees.specs.declared.form.Form.{Form}
 use Rattle.data_set_trees.specs.declared.measure.Measure.{Measure}
 use Rattle.data_set_trees.specs.declared.operand.DataSet.{DataSet}

@@ -1,7 +1,7 @@
 -- What stands for the data sets among operands, one operand after the other.
 use Rattle.std.specs.Prelude.{List, drop, Option, None, unwrap_or, slice_get}
-use Rattle.typing_rules.specs.declared.scope.Slot.{Slot}
-use Rattle.typing_rules.specs.declared.typed.Typed.{Typed}
+use Rattle.scalar_trees.specs.declared.typing.scope.Slot.{Slot}
+use Rattle.scalar_trees.specs.declared.typing.typed.Typed.{Typed}
 use Rattle.data_set_trees.specs.declared.operand.Operand.{Operand}
 use Rattle.data_set_trees.specs.declared.operand.Operand.TheVariants as operand
 use Rattle.data_set_trees.specs.Lifted.{stands}

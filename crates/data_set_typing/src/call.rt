@@ -1,14 +1,14 @@
 // A scalar operator on operands.
 ghost use Rattle.std.specs.Prelude.{◌≡◌, Ok, IfOk, IfErr};
-ghost use Rattle.typing_rules.specs.declared.stop.TypeStop.TheVariants.{Memory};
-ghost use Rattle.typing_rules.specs.Steps.{Refuses};
+ghost use Rattle.scalar_trees.specs.declared.typing.stop.TypeStop.TheVariants.{Memory};
+ghost use Rattle.scalar_trees.specs.typing.Steps.{Refuses};
 ghost use Rattle.data_set_trees.specs.Lifted as meant;
 
 use crate::forms::formed;
 use crate::slots::with_slots;
 use data_set_trees::{Form, Operand};
+use scalar_trees::typing::{Fault, Slot, TypeStop, Typed};
 use std::alloc::Global;
-use typing_rules::{Fault, Slot, TypeStop, Typed};
 use vtl_values::Place;
 
 /// A scalar operator at its place on data sets and constants.

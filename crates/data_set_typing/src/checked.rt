@@ -1,13 +1,13 @@
 // Measures that a scalar operator works out.
 ghost use Rattle.std.specs.Prelude.{◌≡◌, Ok, unwrap_or, IfOk, IfErr};
-ghost use Rattle.typing_rules.specs.Steps.{Refuses};
+ghost use Rattle.scalar_trees.specs.typing.Steps.{Refuses};
 ghost use Rattle.data_set_trees.specs.Lifted as meant;
 ghost use Rattle.data_set_typing.specs.Plans as own;
 
 use crate::call::Call;
-use clause_trees::CheckedMeasure;
+use data_set_trees::clauses::CheckedMeasure;
+use scalar_trees::typing::{Slot, TypeStop, Typed};
 use std::alloc::AllocError;
-use typing_rules::{Slot, TypeStop, Typed};
 use vtl_values::{Kind, Word};
 
 fn new_name(changed: &Option<Word>, name: &Word) -> Result<Word, AllocError>

@@ -1,7 +1,7 @@
 // Scalar operators on their operands.
 ghost use Rattle.std.specs.Prelude.{◌≡◌, ◌∷◌, [], Ok, Err, IfOk, IfErr, MatchOption};
-ghost use Rattle.typing_rules.specs.declared.stop.TypeStop.TheVariants.{Refused};
-ghost use Rattle.typing_rules.specs.Steps.{Refuses};
+ghost use Rattle.scalar_trees.specs.declared.typing.stop.TypeStop.TheVariants.{Refused};
+ghost use Rattle.scalar_trees.specs.typing.Steps.{Refuses};
 ghost use Rattle.data_set_trees.specs.Forms as meant;
 
 use data_set_trees::Form;
@@ -9,9 +9,9 @@ use operator_typing::{
     between_typed, binary_typed, if_typed, in_typed, matches_typed, nvl_typed, replace_typed,
     round_typed, substr_typed, unary_typed,
 };
+use scalar_trees::typing::{Fault, TypeStop, Typed};
 use sqlite_items::Items;
 use std::alloc::Global;
-use typing_rules::{Fault, TypeStop, Typed};
 use vtl_values::Place;
 
 fn take_typed(operands: &mut Items<Typed>) -> Option<Typed>

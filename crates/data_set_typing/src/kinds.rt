@@ -1,6 +1,6 @@
 // Whether the kinds of operands fit.
 ghost use Rattle.std.specs.Prelude.{◌≡◌, [], IfOk, IfErr, OnOk};
-ghost use Rattle.typing_rules.specs.declared.stop.TypeStop.TheVariants.{Memory};
+ghost use Rattle.scalar_trees.specs.declared.typing.stop.TypeStop.TheVariants.{Memory};
 ghost use Rattle.data_set_trees.specs.Lifted as meant;
 ghost use Rattle.data_set_typing.specs.Kinds as own;
 
@@ -8,9 +8,9 @@ use crate::call::Call;
 use data_set_parts::components::measures;
 use data_set_parts::measures::slot_of;
 use data_set_trees::{Measure, Operand};
+use scalar_trees::typing::{Slot, TypeStop};
 use sqlite_items::Items;
 use std::alloc::AllocError;
-use typing_rules::{Slot, TypeStop};
 
 /// Nothing stands for a data set that comes before others.
 fn push_before(before: &mut Items<Option<Slot>>, operand: &Operand) -> Result<(), AllocError>

@@ -1,6 +1,6 @@
 // A scalar operator on any operands.
 ghost use Rattle.std.specs.Prelude.{◌≡◌, Ok, IfOk, IfErr};
-ghost use Rattle.typing_rules.specs.Steps.{Refuses};
+ghost use Rattle.scalar_trees.specs.typing.Steps.{Refuses};
 ghost use Rattle.data_set_trees.specs.Pairs as meant;
 ghost use Rattle.data_set_trees.specs.Trees as trees;
 ghost use Rattle.data_set_typing.specs.Plans as own;
@@ -9,9 +9,9 @@ use crate::call::Call;
 use crate::plan::Plan;
 use data_set_parts::nodes::{applied, data_sets};
 use data_set_trees::{DataSet, Form, Operand};
+use scalar_trees::typing::TypeStop;
 use sqlite_items::{Boxed, Items};
 use std::alloc::{AllocError, Global};
-use typing_rules::TypeStop;
 use vtl_values::Place;
 
 /// A plan carried out on the data sets, or want of memory.

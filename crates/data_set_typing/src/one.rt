@@ -1,21 +1,21 @@
 // A scalar operator on one data set.
 ghost use Rattle.std.specs.Prelude.{◌≡◌, Ok, IfOk, IfErr};
-ghost use Rattle.typing_rules.specs.Steps.{Refuses};
+ghost use Rattle.scalar_trees.specs.typing.Steps.{Refuses};
 ghost use Rattle.data_set_trees.specs.Lifted as meant;
 ghost use Rattle.data_set_parts.specs.Walks as walks;
 ghost use Rattle.data_set_typing.specs.Plans as own;
 
 use crate::call::Call;
 use crate::meetings::has_one_if;
-use clause_trees::CheckedMeasure;
 use data_set_parts::components::measures;
 use data_set_parts::demands::demands;
 use data_set_parts::measures::slot_of;
 use data_set_parts::names;
 use data_set_trees::Measure;
+use data_set_trees::clauses::CheckedMeasure;
+use scalar_trees::typing::{Fault, TypeStop};
 use sqlite_items::Items;
 use std::alloc::{AllocError, Global};
-use typing_rules::{Fault, TypeStop};
 use vtl_values::{Component, Word};
 
 /// Whether no identifier and no viral attribute has the name, if there is a new one. Or want of memory.

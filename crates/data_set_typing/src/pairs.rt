@@ -1,8 +1,8 @@
 // A scalar operator on two data sets.
 ghost use Rattle.std.specs.Prelude.{◌≡◌, ◌&&◌, ◌+◌, ◌<◌, ◌^◌, length, Ok, map, IfOk, IfErr};
 ghost use Rattle.std.specs.List.{All};
-ghost use Rattle.typing_rules.specs.declared.stop.TypeStop.TheVariants.{Memory};
-ghost use Rattle.typing_rules.specs.Steps.{Refuses};
+ghost use Rattle.scalar_trees.specs.declared.typing.stop.TypeStop.TheVariants.{Memory};
+ghost use Rattle.scalar_trees.specs.typing.Steps.{Refuses};
 ghost use Rattle.data_set_trees.specs.Lifted as lifted;
 ghost use Rattle.data_set_trees.specs.Pairs as meant;
 ghost use Rattle.data_set_parts.specs.Walks as walks;
@@ -11,16 +11,16 @@ ghost use Rattle.data_set_typing.specs.Plans as own;
 use crate::call::Call;
 use crate::meetings::{identifiers_agree, measures_agree, meeting};
 use crate::plan::Plan;
-use clause_trees::CheckedMeasure;
 use data_set_parts::components::{measures, virals_agree};
 use data_set_parts::demands::demands;
 use data_set_parts::joins::joined;
 use data_set_parts::measures::slot_of;
 use data_set_parts::results::fitting;
+use data_set_trees::clauses::CheckedMeasure;
 use data_set_trees::{DataSetOperator, Measure};
+use scalar_trees::typing::{Fault, Slot, TypeStop};
 use sqlite_items::Items;
 use std::alloc::{AllocError, Global};
-use typing_rules::{Fault, Slot, TypeStop};
 use vtl_values::{Component, Place, Structure, Word};
 
 /// A component of the second data set, whose numbers come after those of the first.

@@ -1,6 +1,6 @@
 // What a scalar operator comes to.
 use data_set_trees::DataSetOperator;
-use typing_rules::Typed;
+use scalar_trees::typing::Typed;
 use vtl_values::Structure;
 
 /// A scalar, or an operator on the data sets among its operands, with the structure of its result.

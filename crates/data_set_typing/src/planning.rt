@@ -1,8 +1,8 @@
 // What a scalar operator comes to, by the number of its data sets.
 ghost use Rattle.std.specs.Prelude.{◌≡◌, Ok, IfOk, IfErr};
 ghost use Rattle.vtl_values.specs.Structures.{IsStructure};
-ghost use Rattle.typing_rules.specs.Steps.{Refuses};
-ghost use Rattle.clause_trees.specs.declared.clause.CheckedClause.TheVariants as clause;
+ghost use Rattle.scalar_trees.specs.typing.Steps.{Refuses};
+ghost use Rattle.data_set_trees.specs.declared.clauses.clause.CheckedClause.TheVariants as clause;
 ghost use Rattle.data_set_trees.specs.Lifted as sets;
 ghost use Rattle.data_set_parts.specs.Results as parts;
 ghost use Rattle.data_set_typing.specs.Plans as own;
@@ -11,14 +11,14 @@ use crate::call::Call;
 use crate::forms::is_of_two;
 use crate::names::changed_name;
 use crate::plan::Plan;
-use clause_trees::{CheckedClause, CheckedMeasure};
 use data_set_parts::clauses::structure_after;
 use data_set_parts::demands::demands;
 use data_set_parts::nodes::structures_of;
+use data_set_trees::clauses::{CheckedClause, CheckedMeasure};
 use data_set_trees::{DataSetOperator, Operand};
+use scalar_trees::typing::{Fault, TypeStop};
 use sqlite_items::Items;
 use std::alloc::{AllocError, Global};
-use typing_rules::{Fault, TypeStop};
 use vtl_values::{Structure, Word};
 
 /// At which place the first data set stands.

@@ -6,9 +6,9 @@ ghost use Rattle.data_set_typing.specs.Slots as own;
 use data_set_parts::copies::copy_typed;
 use data_set_parts::measures::stands;
 use data_set_trees::Operand;
+use scalar_trees::typing::{Slot, Typed};
 use sqlite_items::Items;
 use std::alloc::{AllocError, Global};
-use typing_rules::{Slot, Typed};
 
 fn first_slot(slots: &[Option<Slot>]) -> Option<Slot>
     ensures { result ≡ own.first_slot slots.now }

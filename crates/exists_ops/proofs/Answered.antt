@@ -17,11 +17,11 @@ use Rattle.data_model.specs.Drafts.{finished}
 use Rattle.point_sets.specs.DataSets.{DataSet}
 use Rattle.point_sets.specs.Changes.{Changes}
 use Rattle.structured_sets.specs.Fitting.{IsSetOf}
-use Rattle.clause_trees.specs.Frames.{numbers_of}
+use Rattle.data_set_trees.specs.clauses.Frames.{numbers_of}
 use Rattle.data_set_trees.specs.Exists.{common_agree, exists_structure}
 use Rattle.data_set_trees.specs.declared.tree.DataSetOperator.{DataSetOperator}
 use Rattle.data_set_trees.specs.declared.tree.DataSetOperator.TheVariants.{ExistsIn}
-use Rattle.checked_trees.specs.Operators.{Operator, IsTyped, IsTypedExists, TakesOperands, an_operator}
+use Rattle.data_set_trees.specs.checked.Operators.{Operator, IsTyped, IsTypedExists, TakesOperands, an_operator}
 use Rattle.operator_meaning.specs.Operators.{meaning_of, AreOperands}
 use Rattle.held_index.specs.Drafts.{SetDraft}
 use Rattle.held_index.specs.Holdings.{Holding}
@@ -30,8 +30,8 @@ use Rattle.held_index.specs.declared.stop.Stop.{Stop}
 use Rattle.held_index.specs.declared.want.Want.{Want}
 use Rattle.held_index.proofs.Rules.{IsRightAnswer-finished}
 use Rattle.held_index.specs.Wants.{in_parts}
-use Rattle.exists_meaning.specs.Exists.{ExistsOn, exists_on, exists_meaning}
-use Rattle.exists_meaning.specs.Typed.{IsTypedExistsOn}
+use Rattle.operator_meaning.specs.exists.Exists.{ExistsOn, exists_on, exists_meaning}
+use Rattle.operator_meaning.specs.exists.Typed.{IsTypedExistsOn}
 use Rattle.exists_ops.specs.Parts.{AreShifts, left_want, right_numbers, right_want, shared_number}
 use Rattle.exists_ops.specs.Noted.{IsFor, IsNoted}
 use Rattle.exists_ops.specs.Rules.{both, operator_of, wanted_of, IsExists}

@@ -31,16 +31,16 @@ use Rattle.point_sets.specs.declared.delta.Change.{Change}
 use Rattle.point_sets.specs.Changes.{Changes, change_entry, values_eq, values_of, AreChanges}
 use Rattle.point_sets.proofs.Changes.{values_eq-IsEqualityTest}
 use Rattle.point_sets.proofs.Found.{change_at}
-use Rattle.clause_trees.specs.Frames.{numbers_of}
+use Rattle.data_set_trees.specs.clauses.Frames.{numbers_of}
 use Rattle.data_set_trees.specs.Components.{identifiers}
-use Rattle.pair_meaning.proofs.Names.{either-left, either-right}
+use Rattle.operator_meaning.proofs.pairs.Names.{either-left, either-right}
 use Rattle.vtl_values.specs.declared.kind.Role.TheVariants.{Viral}
 use Rattle.held_index.specs.Drafts.{SetDraft}
 use Rattle.held_index.specs.Holdings.{Holding, look_steps, part_of}
 use Rattle.held_index.specs.Rules.{SetOutcome}
 use Rattle.held_index.specs.Walks.{PointValues}
-use Rattle.exists_meaning.specs.Exists.{ExistsOn, common, is_met, exists_values, exists_working, exists_meaning}
-use Rattle.exists_meaning.proofs.Told.{exists-covered}
+use Rattle.operator_meaning.specs.exists.Exists.{ExistsOn, common, is_met, exists_values, exists_working, exists_meaning}
+use Rattle.operator_meaning.proofs.exists.Told.{exists-covered}
 use Rattle.exists_ops.specs.Parts.{AreShifts, left_numbers, right_numbers, right_want, has_part, has_part_after, is_in, key_part, no_shift, shift_at}
 use Rattle.exists_ops.specs.Told.{told_of}
 use Rattle.exists_ops.specs.Noted.{differ, noted_at, IsFor, IsMetIn, IsNoted}

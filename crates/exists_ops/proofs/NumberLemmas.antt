@@ -12,14 +12,14 @@ use Rattle.vtl_values.specs.declared.value.Value.TheVariants.{Null}
 use Rattle.structured_sets.specs.Fitting.{is_identifier, others}
 use Rattle.structured_sets.proofs.Lists.{position-cons}
 use Rattle.held_index.specs.Walks.{component_of, part_key}
-use Rattle.clause_trees.specs.Frames.{has_role}
+use Rattle.data_set_trees.specs.clauses.Frames.{has_role}
 use Rattle.clause_meaning.proofs.ByRole.{of-identifiers}
 use Rattle.clause_meaning.proofs.First.{identifiers-first}
 use Rattle.clause_meaning.proofs.Fits.{same_test}
 use Rattle.data_set_trees.specs.Components.{identifiers, has_name, is_taken}
-use Rattle.pair_meaning.specs.Pairs.{key_between, value_where}
-use Rattle.pair_meaning.proofs.Joined.{Has, own-role}
-use Rattle.exists_meaning.specs.Exists.{ExistsOn, common}
+use Rattle.operator_meaning.specs.pairs.Pairs.{key_between, value_where}
+use Rattle.operator_meaning.proofs.pairs.Joined.{Has, own-role}
+use Rattle.operator_meaning.specs.exists.Exists.{ExistsOn, common}
 use Rattle.exists_ops.specs.Parts.{number_of, shared_number, numbers_in, key_part}
 
 -- ---- the place of the first that passes

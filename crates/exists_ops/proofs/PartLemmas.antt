@@ -32,9 +32,9 @@ use Rattle.held_index.specs.Holdings.{part_of}
 use Rattle.held_index.specs.WalkLaws.{place_cmp-IsTotalOrder}
 use Rattle.held_index.specs.Walks.{PointValues, part_key, place_cmp}
 use Rattle.held_index.specs.Wants.{in_parts}
-use Rattle.pair_meaning.specs.Pairs.{key_between}
-use Rattle.exists_meaning.specs.Exists.{ExistsOn, common, right_values, is_met}
-use Rattle.exists_meaning.specs.Typed.{IsTypedExistsOn}
+use Rattle.operator_meaning.specs.pairs.Pairs.{key_between}
+use Rattle.operator_meaning.specs.exists.Exists.{ExistsOn, common, right_values, is_met}
+use Rattle.operator_meaning.specs.exists.Typed.{IsTypedExistsOn}
 use Rattle.exists_ops.specs.Parts.{numbers_in, left_numbers, right_want, key_part, is_in, shift_in, has_part, has_part_after}
 use Rattle.exists_ops.proofs.NumberLemmas.{part-values, same-part}
 

@@ -22,7 +22,7 @@ use Rattle.data_model.proofs.MapLemmas.{tied, tied_to_itself}
 use Rattle.point_sets.specs.Changes.{Changes}
 use Rattle.structured_sets.specs.Fitting as fitting
 use Rattle.structured_sets.specs.Fitting.{others}
-use Rattle.clause_trees.specs.Frames.{has_role}
+use Rattle.data_set_trees.specs.clauses.Frames.{has_role}
 use Rattle.clause_meaning.proofs.ByRole.{of-identifiers}
 use Rattle.clause_meaning.proofs.First.{identifiers-first}
 use Rattle.data_set_trees.specs.Components.{identifiers, has_name}
@@ -31,13 +31,13 @@ use Rattle.held_index.specs.Walks.{PointValues, component_of, part_key}
 use Rattle.held_index.specs.WalkLaws.{place_cmp-IsTotalOrder}
 use Rattle.held_index.proofs.OrderLemmas.{length-in_order}
 use Rattle.structured_sets.proofs.Lists.{position-cons}
-use Rattle.pair_meaning.proofs.Joined.{Has, own-role}
-use Rattle.pair_meaning.proofs.Keys.{names, names-apart}
-use Rattle.pair_meaning.proofs.Names.{same-true, same-refl, named, is_in, Apart, either-left, either-right}
-use Rattle.typing_rules.proofs.Sound.{both, left, right}
-use Rattle.exists_meaning.specs.Exists.{ExistsOn, common}
-use Rattle.exists_meaning.specs.Typed.{IsTypedExistsOn}
-use Rattle.exists_meaning.proofs.Agreed.{both-have, named-in, taken-in}
+use Rattle.operator_meaning.proofs.pairs.Joined.{Has, own-role}
+use Rattle.operator_meaning.proofs.pairs.Keys.{names, names-apart}
+use Rattle.operator_meaning.proofs.pairs.Names.{same-true, same-refl, named, is_in, Apart, either-left, either-right}
+use Rattle.scalar_trees.proofs.typing.Sound.{both, left, right}
+use Rattle.operator_meaning.specs.exists.Exists.{ExistsOn, common}
+use Rattle.operator_meaning.specs.exists.Typed.{IsTypedExistsOn}
+use Rattle.operator_meaning.proofs.exists.Agreed.{both-have, named-in, taken-in}
 use Rattle.exists_ops.specs.Parts.{AreShifts, number_of, numbers_in, left_numbers, left_want, right_numbers, key_part}
 use Rattle.pair_ops.specs.Reach.{NamedValue, named_values, agrees, agree, held_of, met_keys, main_points, pairs_with, matching_reach}
 use Rattle.exists_ops.specs.Walked.{part_cost, cost}

@@ -7,7 +7,7 @@ use Rattle.data_set_trees.specs.Components.{identifiers}
 use Rattle.held_index.specs.Holdings.{FitsStructure}
 use Rattle.held_index.proofs.WantLemmas.{in_parts-fits}
 use Rattle.structured_sets.proofs.Lists.{position-cons}
-use Rattle.exists_meaning.specs.Exists.{ExistsOn, common}
+use Rattle.operator_meaning.specs.exists.Exists.{ExistsOn, common}
 use Rattle.exists_ops.specs.Parts.{number_of, numbers_in, left_numbers, left_want, right_numbers, right_want}
 use Rattle.exists_ops.proofs.NumberLemmas.{is_called}
 

@@ -10,9 +10,9 @@ use Rattle.point_sets.specs.Changes.{Changes, values_eq}
 use Rattle.structured_sets.specs.Fitting.{IsSetOf}
 use Rattle.held_index.specs.Drafts.{SetDraft}
 use Rattle.held_index.specs.Holdings.{Holding}
-use Rattle.clause_trees.specs.Frames.{numbers_of}
-use Rattle.exists_meaning.specs.Exists.{ExistsOn, exists_working}
-use Rattle.exists_meaning.specs.Typed.{IsTypedExistsOn}
+use Rattle.data_set_trees.specs.clauses.Frames.{numbers_of}
+use Rattle.operator_meaning.specs.exists.Exists.{ExistsOn, exists_working}
+use Rattle.operator_meaning.specs.exists.Typed.{IsTypedExistsOn}
 use Rattle.exists_ops.specs.Parts.{left_want, right_want, has_part}
 use Rattle.exists_ops.specs.Told.{told_of}
 use Rattle.exists_ops.specs.declared.notes.Met.{Met}

@@ -13,9 +13,9 @@ use Rattle.point_sets.specs.DataSets.{DataSet}
 use Rattle.held_index.specs.declared.want.Want.{Want}
 use Rattle.held_index.specs.Holdings.{part_of}
 use Rattle.held_index.specs.Wants.{in_parts}
-use Rattle.clause_trees.specs.Frames.{has_role}
+use Rattle.data_set_trees.specs.clauses.Frames.{has_role}
 use Rattle.data_set_trees.specs.Components.{identifiers, has_name}
-use Rattle.exists_meaning.specs.Exists.{ExistsOn, common}
+use Rattle.operator_meaning.specs.exists.Exists.{ExistsOn, common}
 use Rattle.exists_ops.specs.declared.parts.Shift.{Shift}
 
 -- ---- what is wanted

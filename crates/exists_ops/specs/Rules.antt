@@ -4,11 +4,11 @@ use Rattle.vtl_values.specs.declared.kind.Role.TheVariants.{Viral}
 use Rattle.vtl_values.specs.declared.structure.Component.{Component}
 use Rattle.vtl_syntax.specs.declared.words.ExistsRows.{ExistsRows}
 use Rattle.held_index.specs.declared.want.Want.{Want}
-use Rattle.clause_trees.specs.Frames.{numbers_of}
+use Rattle.data_set_trees.specs.clauses.Frames.{numbers_of}
 use Rattle.data_set_trees.specs.declared.tree.DataSetOperator.{DataSetOperator}
 use Rattle.data_set_trees.specs.declared.tree.DataSetOperator.TheVariants.{ExistsIn}
-use Rattle.checked_trees.specs.Operators.{Operator, IsTyped, an_operator}
-use Rattle.exists_meaning.specs.Exists.{ExistsOn, exists_on}
+use Rattle.data_set_trees.specs.checked.Operators.{Operator, IsTyped, an_operator}
+use Rattle.operator_meaning.specs.exists.Exists.{ExistsOn, exists_on}
 use Rattle.exists_ops.specs.Parts.{left_want, right_want}
 use Rattle.exists_ops.specs.declared.told.Told.{Told}
 

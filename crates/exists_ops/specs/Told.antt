@@ -5,7 +5,7 @@ use Rattle.vtl_values.specs.declared.value.Value.{Value}
 use Rattle.vtl_values.specs.declared.value.Value.TheVariants.{Truth}
 use Rattle.vtl_syntax.specs.declared.words.ExistsRows.{ExistsRows}
 use Rattle.clause_meaning.specs.Clauses.{values_at}
-use Rattle.exists_meaning.specs.Exists.{stays}
+use Rattle.operator_meaning.specs.exists.Exists.{stays}
 
 -- whether the point is met, and its values with these numbers
 abbrev pub told_values : List ℕ → Bool → List Value → List Value → List Value

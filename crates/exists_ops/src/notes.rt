@@ -6,7 +6,7 @@ ghost use Rattle.vtl_values.specs.declared.value.Value.{Value as V};
 ghost use Rattle.point_sets.specs.DataSets.{HasKey};
 ghost use Rattle.point_sets.specs.Changes.{Changes, values_of, IsChange};
 ghost use Rattle.held_index.specs.Holdings.{Holding, part_of as points_of};
-ghost use Rattle.exists_meaning.specs.Exists.{ExistsOn};
+ghost use Rattle.operator_meaning.specs.exists.Exists.{ExistsOn};
 ghost use Rattle.exists_ops.specs.Parts.{AreShifts, has_part, has_part_after, left_numbers, right_numbers, key_part};
 ghost use Rattle.exists_ops.specs.Noted.{noted_at, differ, IsFor, IsMetIn, IsNoted};
 ghost use Rattle.exists_ops.specs.Walked.{met_in, keys_in, walked, cost};

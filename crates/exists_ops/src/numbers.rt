@@ -1,7 +1,7 @@
 // The numbers of components.
 ghost use Rattle.std.specs.Prelude.{◌≡◌, filter_map, IfOk};
 ghost use Rattle.vtl_values.specs.declared.kind.Role.TheVariants.{Identifier, Viral};
-ghost use Rattle.clause_trees.specs.Frames as frames;
+ghost use Rattle.data_set_trees.specs.clauses.Frames as frames;
 ghost use Rattle.exists_ops.specs.Parts as specs;
 
 use sqlite_items::Items;

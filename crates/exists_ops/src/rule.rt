@@ -31,8 +31,8 @@ pub struct ExistsRule {
 }
 
 impl Model for ExistsRule {
-    ghost use Rattle.checked_trees.specs.Operators.{operator_coded, Operator};
-    ghost use Rattle.exists_meaning.specs.Exists.{exists_on};
+    ghost use Rattle.data_set_trees.specs.checked.Operators.{operator_coded, Operator};
+    ghost use Rattle.operator_meaning.specs.exists.Exists.{exists_on};
     ghost use Rattle.exists_ops.specs.Rules.{operator_of, IsRule};
 
     ghost Value = { Operator };
@@ -56,7 +56,7 @@ fn rows_of(operator: &DataSetOperator) -> ExistsRows
 }
 
 impl ExistsRule {
-    ghost use Rattle.checked_trees.specs.Operators.{an_operator, IsTyped};
+    ghost use Rattle.data_set_trees.specs.checked.Operators.{an_operator, IsTyped};
 
     /// The rule of a node's operator, which is `exists_in`.
     pub fn of(alloc: Global, node: &DataSetNode) -> Result<ExistsRule, AllocError>

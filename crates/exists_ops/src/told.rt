@@ -5,7 +5,7 @@ ghost use Rattle.vtl_values.specs.declared.value.Value.{Value as V};
 ghost use Rattle.point_sets.specs.DataSets.{HasKey, key_of, rest_of};
 ghost use Rattle.point_sets.specs.Changes.{values_of};
 ghost use Rattle.clause_meaning.specs.Clauses as clauses;
-ghost use Rattle.exists_meaning.specs.Exists as meant;
+ghost use Rattle.operator_meaning.specs.exists.Exists as meant;
 ghost use Rattle.exists_ops.specs.Told as specs;
 
 use point_sets::Point;

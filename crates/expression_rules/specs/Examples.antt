@@ -4,8 +4,8 @@ use Rattle.vtl_values.specs.declared.kind.Kind.TheVariants.{Text}
 use Rattle.vtl_values.specs.declared.kind.Role.TheVariants.{Identifier}
 use Rattle.vtl_values.specs.declared.structure.Component.{Component}
 use Rattle.vtl_syntax.specs.declared.expr.Over.{Over}
-use Rattle.clause_trees.specs.declared.clause.CheckedClause.TheVariants.{Rename}
-use Rattle.clause_trees.specs.After.{made}
+use Rattle.data_set_trees.specs.declared.clauses.clause.CheckedClause.TheVariants.{Rename}
+use Rattle.data_set_trees.specs.clauses.After.{made}
 use Rattle.data_set_trees.specs.declared.operand.Operand.{Operand}
 use Rattle.data_set_trees.specs.Examples.{here, amount, input}
 use Rattle.expression_rules.specs.JoinClauses.{Placed}

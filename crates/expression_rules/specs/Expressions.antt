@@ -19,11 +19,11 @@ use Rattle.vtl_syntax.specs.declared.expr.JoinOperand.{JoinOperand}
 use Rattle.vtl_syntax.specs.declared.expr.SubstrRange.{SubstrRange}
 use Rattle.vtl_syntax.specs.declared.expr.Clause.TheOpen.{Expr-F, JoinOperand-F, SubstrRange-F}
 use Rattle.scalar_trees.specs.declared.operators.BinaryOperator.TheVariants as binary
-use Rattle.typing_rules.specs.declared.stop.Fault.TheVariants.{UnknownComponent, WrongType, WrongStructure}
-use Rattle.typing_rules.specs.declared.stop.Refusal.{Refusal}
-use Rattle.typing_rules.specs.Operators.{prefix_operator, unary_operator, or_operator, sum_operator, product_operator, comparison_operator}
-use Rattle.typing_rules.specs.Scalars.{literal_typed, sort_typed}
-use Rattle.typing_rules.specs.Steps.{◌>>=◌, or_refused, refused}
+use Rattle.scalar_trees.specs.declared.typing.stop.Fault.TheVariants.{UnknownComponent, WrongType, WrongStructure}
+use Rattle.scalar_trees.specs.declared.typing.stop.Refusal.{Refusal}
+use Rattle.scalar_trees.specs.typing.Operators.{prefix_operator, unary_operator, or_operator, sum_operator, product_operator, comparison_operator}
+use Rattle.scalar_trees.specs.typing.Scalars.{literal_typed, sort_typed}
+use Rattle.scalar_trees.specs.typing.Steps.{◌>>=◌, or_refused, refused}
 use Rattle.data_set_trees.specs.declared.form.Form.{Form}
 use Rattle.data_set_trees.specs.declared.form.Form.TheVariants as form
 use Rattle.data_set_trees.specs.declared.operand.DataSet.{DataSet}
@@ -39,6 +39,7 @@ use Rattle.data_set_trees.specs.Sets.{sets_typed}
 use Rattle.data_set_trees.specs.Choices.{choice_typed}
 use Rattle.data_set_trees.specs.Joins.{alias_of}
 use Rattle.expression_rules.specs.OnClauses.{on_clause}
+use Rattle.expression_rules.specs.OnChecks.{check_typed}
 use Rattle.expression_rules.specs.OnSets.{on_aggregate, on_window, on_offset, on_time, on_shift, on_fill}
 use Rattle.expression_rules.specs.JoinClauses.{join_typed}
 
@@ -154,7 +155,7 @@ typed_step (Expr-F.Rank over place) naming = refused WrongStructure place
 typed_step (Expr-F.CheckDatapoint a rules rules_place output place) naming = refused WrongStructure place
 typed_step (Expr-F.Hierarchy a rules rules_place component mode input output place) naming = refused WrongStructure place
 typed_step (Expr-F.CheckHierarchy a rules rules_place component mode input output place) naming = refused WrongStructure place
-typed_step (Expr-F.Check a code level imbalance output place) naming = refused WrongStructure place
+typed_step (Expr-F.Check a code level imbalance output place) naming = all_typed (a.1 ∷ typings (option_to_list imbalance)) naming >>= check_typed (record { code = code; level = level }) output place
 typed_step (Expr-F.Time f a place) naming = a.1 naming >>= on_time f place
 typed_step (Expr-F.Timeshift a shift place) naming = a.1 naming >>= on_shift shift place
 typed_step (Expr-F.FillTimeSeries a span place) naming = a.1 naming >>= on_fill span place

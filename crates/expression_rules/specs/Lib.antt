@@ -1,5 +1,6 @@
 pub mod OnClauses
 pub mod JoinClauses
 pub mod OnSets
+pub mod OnChecks
 pub mod Expressions
 pub mod Examples

@@ -7,15 +7,15 @@ use Rattle.vtl_syntax.specs.declared.expr.Item.{Item, out-Item}
 use Rattle.vtl_syntax.specs.declared.expr.JoinOperand.{JoinOperand}
 use Rattle.vtl_syntax.specs.declared.expr.SubstrRange.{SubstrRange}
 use Rattle.vtl_syntax.specs.declared.expr.Clause.TheOpen.{Clause-F}
-use Rattle.typing_rules.specs.declared.scope.Basis.TheVariants.{Point}
-use Rattle.typing_rules.specs.declared.stop.Fault.TheVariants.{WrongStructure}
-use Rattle.typing_rules.specs.declared.stop.Refusal.{Refusal}
-use Rattle.typing_rules.specs.Scalars.{typed, place_of}
-use Rattle.typing_rules.specs.Steps.{◌>>=◌, refused}
-use Rattle.clause_trees.specs.declared.clause.CheckedItem.{CheckedItem}
-use Rattle.clause_trees.specs.declared.frame.Frame.{Frame}
-use Rattle.clause_trees.specs.Frames.{frame_of, scope_of_frame}
-use Rattle.clause_trees.specs.Clauses.{Answer, filter_typed, item_typed, calc_typed, keep_typed, drop_typed, rename_typed, sub_typed, unpivot_typed}
+use Rattle.scalar_trees.specs.declared.typing.scope.Basis.TheVariants.{Point}
+use Rattle.scalar_trees.specs.declared.typing.stop.Fault.TheVariants.{WrongStructure}
+use Rattle.scalar_trees.specs.declared.typing.stop.Refusal.{Refusal}
+use Rattle.scalar_trees.specs.typing.Scalars.{typed, place_of}
+use Rattle.scalar_trees.specs.typing.Steps.{◌>>=◌, refused}
+use Rattle.data_set_trees.specs.declared.clauses.clause.CheckedItem.{CheckedItem}
+use Rattle.data_set_trees.specs.declared.clauses.frame.Frame.{Frame}
+use Rattle.data_set_trees.specs.clauses.Frames.{frame_of, scope_of_frame}
+use Rattle.data_set_trees.specs.clauses.Clauses.{Answer, filter_typed, item_typed, calc_typed, keep_typed, drop_typed, rename_typed, sub_typed, unpivot_typed}
 use Rattle.data_set_trees.specs.declared.operand.Operand.{Operand}
 use Rattle.data_set_trees.specs.declared.operand.Operand.TheVariants as operand
 use Rattle.data_set_trees.specs.Trees.{SetAnswer, with_clause}

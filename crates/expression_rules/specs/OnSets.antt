@@ -10,19 +10,17 @@ use Rattle.vtl_syntax.specs.declared.words.FillSpan.{FillSpan}
 use Rattle.vtl_syntax.specs.declared.words.OffsetFunction.{OffsetFunction}
 use Rattle.vtl_syntax.specs.declared.words.TimeFunction.{TimeFunction}
 use Rattle.vtl_syntax.specs.declared.words.WindowFunction.{WindowFunction}
-use Rattle.typing_rules.specs.declared.stop.Fault.TheVariants.{WrongStructure}
-use Rattle.typing_rules.specs.declared.stop.Refusal.{Refusal}
-use Rattle.typing_rules.specs.Steps.{◌>>=◌, refused}
-use Rattle.clause_trees.specs.Frames.{frame_of}
-use Rattle.aggregate_trees.specs.declared.aggregate.CheckedAggregate.{CheckedAggregate}
-use Rattle.aggregate_trees.specs.Aggregates.{aggregate_checked, aggr_checked}
-use Rattle.aggregate_trees.specs.Results.{grouped}
-use Rattle.window_trees.specs.declared.analytic.CheckedWindow.{CheckedWindow}
-use Rattle.window_trees.specs.Results as windows
-use Rattle.window_trees.specs.Windows.{window_checked, offset_checked}
-use Rattle.time_trees.specs.declared.time.CheckedTime.{CheckedTime}
-use Rattle.time_trees.specs.Times as times
-use Rattle.time_trees.specs.Times.{time_checked, shift_checked, fill_checked}
+use Rattle.scalar_trees.specs.declared.typing.stop.Fault.TheVariants.{WrongStructure}
+use Rattle.scalar_trees.specs.declared.typing.stop.Refusal.{Refusal}
+use Rattle.scalar_trees.specs.typing.Steps.{◌>>=◌, refused}
+use Rattle.data_set_trees.specs.clauses.Frames.{frame_of}
+use Rattle.data_set_trees.specs.aggregates.Aggregates.{aggregate_checked, aggr_checked}
+use Rattle.data_set_trees.specs.aggregates.Results.{grouped}
+use Rattle.data_set_trees.specs.declared.windows.analytic.CheckedWindow.{CheckedWindow}
+use Rattle.data_set_trees.specs.windows.Results as windows
+use Rattle.data_set_trees.specs.windows.Windows.{window_checked, offset_checked}
+use Rattle.data_set_trees.specs.times.Times as times
+use Rattle.data_set_trees.specs.times.Times.{time_checked, shift_checked, fill_checked}
 use Rattle.data_set_trees.specs.declared.operand.DataSet.{DataSet}
 use Rattle.data_set_trees.specs.declared.operand.Operand.{Operand}
 use Rattle.data_set_trees.specs.declared.operand.Operand.TheVariants as operand

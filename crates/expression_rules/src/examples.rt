@@ -7,8 +7,8 @@ ghost use Rattle.vtl_syntax.specs.declared.words.JoinFunction.TheVariants as joi
 ghost use Rattle.vtl_syntax.specs.declared.words.OffsetFunction.TheVariants as offset;
 ghost use Rattle.vtl_syntax.specs.declared.words.TimeFunction.TheVariants as time;
 ghost use Rattle.vtl_syntax.specs.declared.words.WindowFunction.TheVariants as window;
-ghost use Rattle.typing_rules.specs.declared.stop.Fault.TheVariants.{BadConstant, NameTwice, WrongStructure, WrongType};
-ghost use Rattle.clause_trees.specs.After.{made};
+ghost use Rattle.scalar_trees.specs.declared.typing.stop.Fault.TheVariants.{BadConstant, NameTwice, WrongStructure, WrongType};
+ghost use Rattle.data_set_trees.specs.clauses.After.{made};
 ghost use Rattle.data_set_trees.specs.Components.{names_differ};
 ghost use Rattle.data_set_trees.specs.Joins.{join_frame};
 ghost use Rattle.data_set_trees.specs.Examples.{here, id, year, amount, status, amounts, texts, A, B, C, T, three, named, is_set, has_fault};

@@ -26,27 +26,27 @@ use Rattle.scalar_trees.specs.WellTyped.{Kinds, is_kind, is_some_kind, given, is
 use Rattle.scalar_trees.specs.declared.tree.CheckedExpr.{CheckedExpr}
 use Rattle.scalar_trees.specs.declared.tree.CheckedExpr.TheOpen.{CheckedExpr-F}
 use Rattle.scalar_trees.specs.declared.tree.CheckedExpr.TheVariants as tree
-use Rattle.typing_rules.specs.declared.scope.Basis.TheVariants.{Point, Group}
-use Rattle.typing_rules.specs.declared.scope.Column.{Column}
-use Rattle.typing_rules.specs.declared.scope.Scope.{Scope}
-use Rattle.typing_rules.specs.declared.stop.Fault.TheVariants.{UnknownComponent, WrongType, WrongRole, NameTwice, TooManyComponents}
-use Rattle.typing_rules.specs.declared.typed.Typed.{Typed}
-use Rattle.typing_rules.specs.Scalars.{typed, wanted, whole_kind}
-use Rattle.typing_rules.specs.Scopes.{kinds_of, kind_at, seen_slot}
-use Rattle.typing_rules.specs.Sound.{IsTypedIf}
-use Rattle.typing_rules.specs.Steps.{◌>>=◌}
-use Rattle.typing_rules.proofs.Sound.{is_kind-refl, both, left, right, rolled}
-use Rattle.typing_rules.proofs.SoundSets.{own-kind}
-use Rattle.clause_trees.specs.Clauses.{passes_at, role_of}
-use Rattle.clause_trees.specs.Frames.{frame_of, has_role, numbers_of}
-use Rattle.clause_trees.specs.WellTyped.{may_be_made}
-use Rattle.aggregate_trees.specs.declared.aggregate.AggregateItem.{AggregateItem}
-use Rattle.aggregate_trees.specs.declared.aggregate.CheckedAggregate.{CheckedAggregate}
-use Rattle.aggregate_trees.specs.Aggregates.{aggregate, aggregate_of, aggregate_checked, aggr_checked, are_known, condition_checked, condition_typed, grouping_of, groups_typed, has_room, having_of, item_checked, item_typed, items_checked, items_of, joined, may_group, names_differ, names_in, on_measures, points_counted, scope_on, takes_all}
-use Rattle.aggregate_trees.specs.Groups.{columns_from, forms_groups, grouping_numbers, is_one_of, kinds_on_groups}
-use Rattle.aggregate_trees.specs.Results.{unordered}
-use Rattle.aggregate_trees.specs.WellTyped.{is_condition, is_item, is_well_typed}
-use Rattle.aggregate_trees.proofs.Grouped.{met}
+use Rattle.scalar_trees.specs.declared.typing.scope.Basis.TheVariants.{Point, Group}
+use Rattle.scalar_trees.specs.declared.typing.scope.Column.{Column}
+use Rattle.scalar_trees.specs.declared.typing.scope.Scope.{Scope}
+use Rattle.scalar_trees.specs.declared.typing.stop.Fault.TheVariants.{UnknownComponent, WrongType, WrongRole, NameTwice, TooManyComponents}
+use Rattle.scalar_trees.specs.declared.typing.typed.Typed.{Typed}
+use Rattle.scalar_trees.specs.typing.Scalars.{typed, wanted, whole_kind}
+use Rattle.scalar_trees.specs.typing.Scopes.{kinds_of, kind_at, seen_slot}
+use Rattle.scalar_trees.specs.typing.Sound.{IsTypedIf}
+use Rattle.scalar_trees.specs.typing.Steps.{◌>>=◌}
+use Rattle.scalar_trees.proofs.typing.Sound.{is_kind-refl, both, left, right, rolled}
+use Rattle.scalar_trees.proofs.typing.SoundSets.{own-kind}
+use Rattle.data_set_trees.specs.clauses.Clauses.{passes_at, role_of}
+use Rattle.data_set_trees.specs.clauses.Frames.{frame_of, has_role, numbers_of}
+use Rattle.data_set_trees.specs.clauses.WellTyped.{may_be_made}
+use Rattle.data_set_trees.specs.declared.aggregates.aggregate.AggregateItem.{AggregateItem}
+use Rattle.data_set_trees.specs.declared.aggregates.aggregate.CheckedAggregate.{CheckedAggregate}
+use Rattle.data_set_trees.specs.aggregates.Aggregates.{aggregate, aggregate_of, aggregate_checked, aggr_checked, are_known, condition_checked, condition_typed, grouping_of, groups_typed, has_room, having_of, item_checked, item_typed, items_checked, items_of, joined, may_group, names_differ, names_in, on_measures, points_counted, scope_on, takes_all}
+use Rattle.data_set_trees.specs.aggregates.Groups.{columns_from, forms_groups, grouping_numbers, is_one_of, kinds_on_groups}
+use Rattle.data_set_trees.specs.aggregates.Results.{unordered}
+use Rattle.data_set_trees.specs.aggregates.WellTyped.{is_condition, is_item, is_well_typed}
+use Rattle.data_set_trees.proofs.aggregates.Grouped.{met}
 use Rattle.literal_ranges.specs.Ranges.{all_are, if_given, range_step, clause_range_step, groups_range_step, item_range_step, operand_range_step, part_range_step, literals_in_range, groups_in_range, item_in_range}
 use Rattle.fitting_trees.proofs.Clauses.{item-range, wanted-is, whole-is}
 use Rattle.fitting_trees.proofs.Numbered.{asked, made-all, one-of-all, numbers-all, TakesOwn, any-own, numeric-own}

@@ -4,10 +4,10 @@ use Rattle.std.proofs.lemmas.List.Elements.{All-nil, All-cons, All-head, All-tai
 use Rattle.std.specs.List.{All}
 use Rattle.vtl_values.specs.declared.place.Place.{Place}
 use Rattle.vtl_values.specs.declared.structure.Component.{Component}
-use Rattle.clause_trees.specs.declared.clause.CheckedClause.{CheckedClause}
-use Rattle.clause_trees.specs.Frames.{frame_of}
-use Rattle.clause_trees.specs.After.{after}
-use Rattle.clause_trees.specs.WellTyped.{is_well_typed}
+use Rattle.data_set_trees.specs.declared.clauses.clause.CheckedClause.{CheckedClause}
+use Rattle.data_set_trees.specs.clauses.Frames.{frame_of}
+use Rattle.data_set_trees.specs.clauses.After.{after}
+use Rattle.data_set_trees.specs.clauses.WellTyped.{is_well_typed}
 use Rattle.data_set_trees.specs.declared.operand.DataSet.{DataSet}
 use Rattle.data_set_trees.specs.declared.tree.Source.{Source}
 use Rattle.data_set_trees.specs.declared.tree.DataSetNode.{DataSetNode, roll-DataSetNode, fold-roll-DataSetNode}
@@ -18,10 +18,10 @@ use Rattle.data_set_trees.specs.declared.tree.DataSetOperator.{DataSetOperator}
 use Rattle.data_set_trees.specs.declared.tree.DataSetOperator.TheVariants as operator
 use Rattle.data_set_trees.specs.Components.{unlisted}
 use Rattle.data_set_trees.specs.Trees.{applied, with_clause}
-use Rattle.checked_trees.specs.Expressions.{Expression, Expressions, Named, Applied, none, more, expressions, name_step, node_step, expression_of}
-use Rattle.checked_trees.specs.Operators.{an_operator, Operator, TakesOperands}
-use Rattle.checked_trees.specs.Scripts.{names_in, names_in_all}
-use Rattle.checked_trees.specs.Typing.{Fits, AllFit}
+use Rattle.data_set_trees.specs.checked.Expressions.{Expression, Expressions, Named, Applied, none, more, expressions, name_step, node_step, expression_of}
+use Rattle.data_set_trees.specs.checked.Operators.{an_operator, Operator, TakesOperands}
+use Rattle.data_set_trees.specs.checked.Scripts.{names_in, names_in_all}
+use Rattle.data_set_trees.specs.checked.Typing.{Fits, AllFit}
 use Rattle.fitting_trees.specs.Fitting.{IsFitting}
 
 -- the expressions of data sets

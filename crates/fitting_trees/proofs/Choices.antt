@@ -12,14 +12,14 @@ use Rattle.vtl_values.specs.declared.place.Place.{Place}
 use Rattle.vtl_values.specs.declared.structure.Component.{Component}
 use Rattle.scalar_trees.specs.Kinds.{ANY, may_stand}
 use Rattle.scalar_trees.specs.WellTyped.{Kinds, is_of_kind}
-use Rattle.typing_rules.specs.declared.typed.Typed.{Typed}
-use Rattle.typing_rules.specs.Scalars.{Agreed, joint, widened, agreeing}
-use Rattle.typing_rules.specs.Sound.{IsTyped}
-use Rattle.typing_rules.specs.Steps.{◌>>=◌}
-use Rattle.typing_rules.proofs.Sound.{both, left, right, found-passes, joint-agreed}
-use Rattle.clause_trees.specs.After.{made}
-use Rattle.clause_trees.specs.Frames.{frame_of}
-use Rattle.clause_trees.specs.WellTyped.{kinds_on}
+use Rattle.scalar_trees.specs.declared.typing.typed.Typed.{Typed}
+use Rattle.scalar_trees.specs.typing.Scalars.{Agreed, joint, widened, agreeing}
+use Rattle.scalar_trees.specs.typing.Sound.{IsTyped}
+use Rattle.scalar_trees.specs.typing.Steps.{◌>>=◌}
+use Rattle.scalar_trees.proofs.typing.Sound.{both, left, right, found-passes, joint-agreed}
+use Rattle.data_set_trees.specs.clauses.After.{made}
+use Rattle.data_set_trees.specs.clauses.Frames.{frame_of}
+use Rattle.data_set_trees.specs.clauses.WellTyped.{kinds_on}
 use Rattle.data_set_trees.specs.declared.measure.Measure.{Measure}
 use Rattle.data_set_trees.specs.declared.operand.DataSet.{DataSet}
 use Rattle.data_set_trees.specs.declared.operand.Operand.{Operand}
@@ -30,8 +30,8 @@ use Rattle.data_set_trees.specs.Components.{identifiers, virals, measures, furth
 use Rattle.data_set_trees.specs.Lifted.{slot_of}
 use Rattle.data_set_trees.specs.Pairs.{is_called}
 use Rattle.data_set_trees.specs.Trees.{data_sets}
-use Rattle.checked_trees.specs.Choices.{is_branch, branches, is_of_branch, belongs_to, are_of_one, all_virals, chosen, IsChoiceOf}
-use Rattle.checked_trees.specs.Operators.{IsTypedChoice}
+use Rattle.data_set_trees.specs.checked.Choices.{is_branch, branches, is_of_branch, belongs_to, are_of_one, all_virals, chosen, IsChoiceOf}
+use Rattle.data_set_trees.specs.checked.Operators.{IsTypedChoice}
 use Rattle.fitting_trees.proofs.Clauses.{widened-is}
 use Rattle.fitting_trees.proofs.Components.{measures-there}
 use Rattle.fitting_trees.proofs.Lifted.{ScalarFits, SlotFits, stands-typed}

@@ -16,23 +16,23 @@ use Rattle.vtl_values.specs.declared.place.Place.{Place}
 use Rattle.scalar_trees.specs.Kinds.{may_stand}
 use Rattle.scalar_trees.specs.declared.tree.CheckedExpr.{CheckedExpr}
 use Rattle.scalar_trees.specs.WellTyped.{Kinds, is_exactly, is_of_kind}
-use Rattle.typing_rules.specs.declared.scope.Basis.TheVariants.{Point}
-use Rattle.typing_rules.specs.declared.stop.Fault.TheVariants.{UnknownComponent, WrongType, WrongStructure, WrongRole, NameTwice, TooManyComponents, BadConstant}
-use Rattle.typing_rules.specs.declared.typed.Typed.{Typed}
-use Rattle.typing_rules.specs.Scalars.{typed, widened, wanted, whole_kind}
-use Rattle.typing_rules.specs.Sound.{IsTyped}
-use Rattle.typing_rules.specs.Steps.{◌>>=◌, or_refused}
-use Rattle.typing_rules.proofs.Sound.{is_kind-refl, exact-own, widened-exact, both, left, right}
-use Rattle.clause_trees.specs.declared.clause.CheckedClause.{CheckedClause}
-use Rattle.clause_trees.specs.declared.clause.CheckedClause.TheVariants as clause
-use Rattle.clause_trees.specs.declared.clause.CheckedItem.{CheckedItem}
-use Rattle.clause_trees.specs.declared.frame.Frame.{Frame}
-use Rattle.clause_trees.specs.Frames.{scope_of_frame}
-use Rattle.clause_trees.specs.After.{calculated, unpivoted}
-use Rattle.clause_trees.specs.Clauses.{IsItemOf, filter_typed, item_typed, calc_typed, may_calculate, targets_differ, has_room, are_known, may_keep, may_drop, numbers_named, are_known_renames, renames_checked, renames_differ, are_known_items, subs_checked, are_comparable, are_identifiers, are_present, are_alike, has_measure, names_differ}
-use Rattle.clause_trees.specs.WellTyped.{kinds_on, is_of, is_well_typed}
-use Rattle.clause_trees.proofs.Made.{met}
-use Rattle.clause_trees.proofs.Typed.{items_well_typed, renames_there}
+use Rattle.scalar_trees.specs.declared.typing.scope.Basis.TheVariants.{Point}
+use Rattle.scalar_trees.specs.declared.typing.stop.Fault.TheVariants.{UnknownComponent, WrongType, WrongStructure, WrongRole, NameTwice, TooManyComponents, BadConstant}
+use Rattle.scalar_trees.specs.declared.typing.typed.Typed.{Typed}
+use Rattle.scalar_trees.specs.typing.Scalars.{typed, widened, wanted, whole_kind}
+use Rattle.scalar_trees.specs.typing.Sound.{IsTyped}
+use Rattle.scalar_trees.specs.typing.Steps.{◌>>=◌, or_refused}
+use Rattle.scalar_trees.proofs.typing.Sound.{is_kind-refl, exact-own, widened-exact, both, left, right}
+use Rattle.data_set_trees.specs.declared.clauses.clause.CheckedClause.{CheckedClause}
+use Rattle.data_set_trees.specs.declared.clauses.clause.CheckedClause.TheVariants as clause
+use Rattle.data_set_trees.specs.declared.clauses.clause.CheckedItem.{CheckedItem}
+use Rattle.data_set_trees.specs.declared.clauses.frame.Frame.{Frame}
+use Rattle.data_set_trees.specs.clauses.Frames.{scope_of_frame}
+use Rattle.data_set_trees.specs.clauses.After.{calculated, unpivoted}
+use Rattle.data_set_trees.specs.clauses.Clauses.{IsItemOf, filter_typed, item_typed, calc_typed, may_calculate, targets_differ, has_room, are_known, may_keep, may_drop, numbers_named, are_known_renames, renames_checked, renames_differ, are_known_items, subs_checked, are_comparable, are_identifiers, are_present, are_alike, has_measure, names_differ}
+use Rattle.data_set_trees.specs.clauses.WellTyped.{kinds_on, is_of, is_well_typed}
+use Rattle.data_set_trees.proofs.clauses.Made.{met}
+use Rattle.data_set_trees.proofs.clauses.Typed.{items_well_typed, renames_there}
 use Rattle.expression_rules.specs.OnClauses.{item_checked, items_checked, clause_step, clause_checked}
 use Rattle.literal_ranges.specs.Ranges.{all_are, range_step, clause_range_step, item_range_step, operand_range_step, part_range_step, groups_range_step, literals_in_range, clause_in_range, item_in_range}
 use Rattle.fitting_trees.proofs.Scalars.{answered, ranges, scalar-typed, gave}

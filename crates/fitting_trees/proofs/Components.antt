@@ -11,15 +11,15 @@ use Rattle.vtl_values.specs.declared.structure.Component.{Component}
 use Rattle.scalar_trees.specs.declared.tree.CheckedExpr.TheVariants as tree
 use Rattle.scalar_trees.specs.declared.tree.CheckedExpr.TheOpen.{CheckedExpr-F}
 use Rattle.scalar_trees.specs.WellTyped.{Kinds, is_some_kind}
-use Rattle.typing_rules.specs.declared.scope.Basis.TheVariants.{Point}
-use Rattle.typing_rules.specs.declared.scope.Column.{Column}
-use Rattle.typing_rules.specs.Scalars.{typed_as}
-use Rattle.typing_rules.specs.Scopes.{column_of, seen_slot}
-use Rattle.typing_rules.specs.Sound.{IsTyped}
-use Rattle.typing_rules.proofs.Sound.{rolled}
-use Rattle.clause_trees.specs.declared.clause.CheckedMeasure.{CheckedMeasure}
-use Rattle.clause_trees.specs.Frames.{frame_of, has_role}
-use Rattle.clause_trees.specs.WellTyped.{kinds_on, is_of}
+use Rattle.scalar_trees.specs.declared.typing.scope.Basis.TheVariants.{Point}
+use Rattle.scalar_trees.specs.declared.typing.scope.Column.{Column}
+use Rattle.scalar_trees.specs.typing.Scalars.{typed_as}
+use Rattle.scalar_trees.specs.typing.Scopes.{column_of, seen_slot}
+use Rattle.scalar_trees.specs.typing.Sound.{IsTyped}
+use Rattle.scalar_trees.proofs.typing.Sound.{rolled}
+use Rattle.data_set_trees.specs.declared.clauses.clause.CheckedMeasure.{CheckedMeasure}
+use Rattle.data_set_trees.specs.clauses.Frames.{frame_of, has_role}
+use Rattle.data_set_trees.specs.clauses.WellTyped.{kinds_on, is_of}
 use Rattle.data_set_trees.specs.declared.measure.Measure as declared
 use Rattle.data_set_trees.specs.Components.{has_name, numbered, name_of_kind, measures_from, measures}
 use Rattle.data_set_trees.specs.Members.{as_measure, member_at, member_from}

@@ -19,12 +19,12 @@ use Rattle.vtl_syntax.specs.declared.expr.JoinOperand.{JoinOperand, roll-JoinOpe
 use Rattle.vtl_syntax.specs.declared.expr.SubstrRange.{SubstrRange, roll-SubstrRange, para-SubstrRange, para-roll-SubstrRange}
 use Rattle.vtl_syntax.proofs.Maps.{maps-Join}
 use Rattle.scalar_trees.specs.WellTyped.{in_range}
-use Rattle.typing_rules.specs.Operators.{prefix_operator, unary_operator, or_operator, sum_operator, product_operator, comparison_operator}
+use Rattle.scalar_trees.specs.typing.Operators.{prefix_operator, unary_operator, or_operator, sum_operator, product_operator, comparison_operator}
 use Rattle.scalar_trees.specs.declared.operators.BinaryOperator.TheVariants as binary
-use Rattle.typing_rules.specs.Steps.{◌>>=◌}
-use Rattle.typing_rules.proofs.Folds.{Trees}
-use Rattle.typing_rules.proofs.Levels.{Family, Maps, over-Expr, over-JoinOperand, over-SubstrRange}
-use Rattle.typing_rules.proofs.Sound.{both, left, right}
+use Rattle.scalar_trees.specs.typing.Steps.{◌>>=◌}
+use Rattle.scalar_trees.proofs.typing.Folds.{Trees}
+use Rattle.scalar_trees.proofs.typing.Levels.{Family, Maps, over-Expr, over-JoinOperand, over-SubstrRange}
+use Rattle.scalar_trees.proofs.typing.Sound.{both, left, right}
 use Rattle.data_set_trees.specs.declared.form.Form.{Form}
 use Rattle.data_set_trees.specs.declared.form.Form.TheVariants as form
 use Rattle.data_set_trees.specs.declared.operand.DataSet.{DataSet}
@@ -34,6 +34,7 @@ use Rattle.expression_rules.specs.Expressions.{Naming, Typing, RangeTyping, all_
 use Rattle.data_set_trees.specs.Exists.{exists_typed}
 use Rattle.expression_rules.specs.JoinClauses.{join_typed}
 use Rattle.data_set_trees.specs.Members.{member_typed}
+use Rattle.expression_rules.specs.OnChecks.{check_typed}
 use Rattle.expression_rules.specs.OnClauses.{on_clause}
 use Rattle.expression_rules.specs.OnSets.{on_aggregate, on_window, on_offset, on_time, on_shift, on_fill}
 use Rattle.data_set_trees.specs.Pairs.{lifted}
@@ -43,7 +44,7 @@ use Rattle.fitting_trees.specs.Fitting.{IsFitting}
 use Rattle.literal_ranges.specs.Ranges.{if_given, all_are, range_step as ranged, clause_range_step, item_range_step, operand_range_step, part_range_step, groups_range_step, literals_in_range, clause_in_range, groups_in_range, operand_in_range, part_in_range}
 use Rattle.fitting_trees.proofs.Joins.{join_typed-fits}
 use Rattle.fitting_trees.proofs.Lifted.{form_in_range}
-use Rattle.fitting_trees.proofs.Rows.{IsFit, Fits, lifted-fits, literal-fits, named-fits, sorted-fits, member-fits, exists-fits, sets_typed-fits, choice-fits, on_clause-fits, on_aggregate-fits, on_window-fits, on_offset-fits, on_time-fits, on_shift-fits, on_fill-fits}
+use Rattle.fitting_trees.proofs.Rows.{IsFit, Fits, lifted-fits, literal-fits, named-fits, sorted-fits, member-fits, exists-fits, sets_typed-fits, choice-fits, check_typed-fits, on_clause-fits, on_aggregate-fits, on_window-fits, on_offset-fits, on_time-fits, on_shift-fits, on_fill-fits}
 use Rattle.fitting_trees.proofs.Scalars.{answered, Truths, ranges, level-in_range, part-in_range, gave}
 
 function-ranged : (f : BinaryFunction) → form_in_range (form_of_function f) ≡ true
@@ -274,6 +275,10 @@ module _ (structures : Source → Option (List Component)) (among : Source → T
       after_one (type_of a) (on_aggregate f (Some g.0) place) (a.1 (left (good a) (groups_in_range g.0) r)) (on_aggregate-fits structures among f (Some g.0) place (right (good a) (groups_in_range g.0) r))
   level (Expr-F.Window f a over place) r = after_one (type_of a) (on_window f over place) (a.1 r) (on_window-fits structures among f over place)
   level (Expr-F.Offset f a offset over place) r = after_one (type_of a) (on_offset f offset over place) (a.1 r) (on_offset-fits structures among f offset over place)
+  level (Expr-F.Check a code severity None output place) r =
+      after_all (type_of a ∷ []) (check_typed (record { code = code; level = severity }) output place) (one-of a (left (good a) true r)) (check_typed-fits structures among (record { code = code; level = severity }) output place)
+  level (Expr-F.Check a code severity (Some b) output place) r =
+      after_all (type_of a ∷ type_of b ∷ []) (check_typed (record { code = code; level = severity }) output place) (two-of a b r) (check_typed-fits structures among (record { code = code; level = severity }) output place)
   level (Expr-F.Time f a place) r = after_one (type_of a) (on_time f place) (a.1 r) (on_time-fits structures among f place)
   level (Expr-F.Timeshift a shift place) r = after_one (type_of a) (on_shift shift place) (a.1 r) (on_shift-fits structures among shift place)
   level (Expr-F.FillTimeSeries a span place) r = after_one (type_of a) (on_fill span place) (a.1 r) (on_fill-fits structures among span place)

@@ -7,16 +7,16 @@ use Rattle.vtl_values.specs.declared.place.Place.{Place}
 use Rattle.vtl_values.specs.declared.structure.Component.{Component}
 use Rattle.vtl_syntax.specs.declared.words.JoinFunction.{JoinFunction}
 use Rattle.vtl_syntax.specs.declared.expr.Clause.{Clause}
-use Rattle.typing_rules.specs.declared.stop.Fault.{Fault}
-use Rattle.typing_rules.specs.declared.stop.Fault.TheVariants.{WrongStructure, NameTwice, TooManyComponents}
-use Rattle.typing_rules.specs.Scalars.{place_of}
-use Rattle.typing_rules.specs.Steps.{◌>>=◌, or_refused, demanded}
-use Rattle.typing_rules.proofs.Sound.{left, right}
-use Rattle.clause_trees.specs.declared.clause.CheckedClause.{CheckedClause}
-use Rattle.clause_trees.specs.declared.frame.Frame.{Frame}
-use Rattle.clause_trees.specs.Frames.{frame_of}
-use Rattle.clause_trees.specs.After.{after}
-use Rattle.clause_trees.specs.Clauses as clauses
+use Rattle.scalar_trees.specs.declared.typing.stop.Fault.{Fault}
+use Rattle.scalar_trees.specs.declared.typing.stop.Fault.TheVariants.{WrongStructure, NameTwice, TooManyComponents}
+use Rattle.scalar_trees.specs.typing.Scalars.{place_of}
+use Rattle.scalar_trees.specs.typing.Steps.{◌>>=◌, or_refused, demanded}
+use Rattle.scalar_trees.proofs.typing.Sound.{left, right}
+use Rattle.data_set_trees.specs.declared.clauses.clause.CheckedClause.{CheckedClause}
+use Rattle.data_set_trees.specs.declared.clauses.frame.Frame.{Frame}
+use Rattle.data_set_trees.specs.clauses.Frames.{frame_of}
+use Rattle.data_set_trees.specs.clauses.After.{after}
+use Rattle.data_set_trees.specs.clauses.Clauses as clauses
 use Rattle.data_set_trees.specs.declared.operand.DataSet.{DataSet}
 use Rattle.data_set_trees.specs.declared.operand.Operand.{Operand}
 use Rattle.data_set_trees.specs.declared.operand.Operand.TheVariants as operand
@@ -28,7 +28,7 @@ use Rattle.expression_rules.specs.JoinClauses.{Placed, inside, after_all, struct
 use Rattle.expression_rules.specs.OnClauses.{clause_checked}
 use Rattle.data_set_trees.specs.Sets.{all_data_sets}
 use Rattle.data_set_trees.specs.Trees.{SetAnswer, applied}
-use Rattle.checked_trees.specs.Operators.{IsTypedJoin, IsTypedInJoin, unnamed}
+use Rattle.data_set_trees.specs.checked.Operators.{IsTypedJoin, IsTypedInJoin, unnamed}
 use Rattle.fitting_trees.specs.Fitting.{IsFitting}
 use Rattle.literal_ranges.specs.Ranges.{clause_in_range}
 use Rattle.fitting_trees.proofs.Applied.{applied-fits}

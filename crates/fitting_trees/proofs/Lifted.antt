@@ -7,15 +7,15 @@ use Rattle.vtl_values.specs.declared.kind.Kind.TheVariants.{Truth}
 use Rattle.vtl_values.specs.declared.place.Place.{Place}
 use Rattle.vtl_values.specs.declared.value.Value.TheVariants.{Null}
 use Rattle.scalar_trees.specs.WellTyped.{Kinds, in_range, is_of_kind}
-use Rattle.typing_rules.specs.declared.scope.Slot.{Slot}
-use Rattle.typing_rules.specs.declared.stop.Refusal.{Refusal}
-use Rattle.typing_rules.specs.declared.typed.Typed.{Typed}
-use Rattle.typing_rules.specs.Sound.{IsTyped, IsTypedIf}
-use Rattle.typing_rules.specs.Steps.{◌>>=◌}
-use Rattle.typing_rules.proofs.Sound.{both, left, right, unary-typed, binary-typed, function-typed, if-typed, round-typed, matches-typed, substr-typed, replace-typed}
-use Rattle.typing_rules.proofs.SoundSets.{literal-typed, in-typed, between-typed}
+use Rattle.scalar_trees.specs.declared.typing.scope.Slot.{Slot}
+use Rattle.scalar_trees.specs.declared.typing.stop.Refusal.{Refusal}
+use Rattle.scalar_trees.specs.declared.typing.typed.Typed.{Typed}
+use Rattle.scalar_trees.specs.typing.Sound.{IsTyped, IsTypedIf}
+use Rattle.scalar_trees.specs.typing.Steps.{◌>>=◌}
+use Rattle.scalar_trees.proofs.typing.Sound.{both, left, right, unary-typed, binary-typed, function-typed, if-typed, round-typed, matches-typed, substr-typed, replace-typed}
+use Rattle.scalar_trees.proofs.typing.SoundSets.{literal-typed, in-typed, between-typed}
 use Rattle.vtl_syntax.specs.declared.words.BinaryFunction.TheVariants as function
-use Rattle.clause_trees.specs.declared.clause.CheckedMeasure.{CheckedMeasure}
+use Rattle.data_set_trees.specs.declared.clauses.clause.CheckedMeasure.{CheckedMeasure}
 use Rattle.data_set_trees.specs.declared.form.Form.{Form}
 use Rattle.data_set_trees.specs.declared.form.Form.TheVariants as form
 use Rattle.data_set_trees.specs.declared.measure.Measure as declared

@@ -7,8 +7,8 @@ use Rattle.vtl_values.specs.declared.kind.Kind.{Kind}
 use Rattle.vtl_values.specs.declared.kind.Kind.TheVariants.{Integer, Number, Text, Truth}
 use Rattle.vtl_values.specs.declared.structure.Component.{Component}
 use Rattle.scalar_trees.specs.Kinds.{ANY, NUMERIC, agreed}
-use Rattle.typing_rules.proofs.Sound.{both, left, right}
-use Rattle.clause_trees.specs.Frames.{numbers_from}
+use Rattle.scalar_trees.proofs.typing.Sound.{both, left, right}
+use Rattle.data_set_trees.specs.clauses.Frames.{numbers_from}
 
 -- what is asked of those that pass a test holds of one that passes it
 pub asked : (a b : Bool) → a ≡ true → (not a || b) ≡ true → b ≡ true

@@ -7,7 +7,7 @@ use Rattle.vtl_values.specs.declared.structure.Component.{Component}
 use Rattle.data_set_trees.specs.declared.measure.Measure.{Measure}
 use Rattle.data_set_trees.specs.Components.{measures}
 use Rattle.data_set_trees.specs.Pairs.{is_called, meeting}
-use Rattle.checked_trees.specs.Operators.{kinds_on_both}
+use Rattle.data_set_trees.specs.checked.Operators.{kinds_on_both}
 use Rattle.fitting_trees.proofs.Components.{AreFrom, IsThere, some-there}
 use Rattle.fitting_trees.proofs.Lifted.{MeetThere}
 

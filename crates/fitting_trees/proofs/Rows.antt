@@ -4,6 +4,7 @@ use Rattle.std.proofs.lemmas.List.Folds.{list_all-map}
 use Rattle.std.proofs.lemmas.List.Elements.{All-nil, All-cons, All-head, All-tail}
 use Rattle.std.specs.Prelude.{unwrap_or, option_map}
 use Rattle.std.specs.List.{All, list_all}
+use Rattle.std.specs.Option.{option_to_list}
 use Rattle.vtl_values.specs.declared.place.Place.{Place}
 use Rattle.vtl_values.specs.declared.structure.Component.{Component}
 use Rattle.vtl_values.specs.declared.value.Value.{Value}
@@ -12,6 +13,7 @@ use Rattle.vtl_syntax.specs.declared.words.ExistsRows.TheVariants as rows
 use Rattle.vtl_syntax.specs.declared.words.Sort.{Sort}
 use Rattle.vtl_syntax.specs.declared.words.Sort.TheVariants as sort
 use Rattle.vtl_syntax.specs.declared.words.AggregateFunction.{AggregateFunction}
+use Rattle.vtl_syntax.specs.declared.words.CheckOutput.{CheckOutput}
 use Rattle.vtl_syntax.specs.declared.words.FillSpan.{FillSpan}
 use Rattle.vtl_syntax.specs.declared.words.OffsetFunction.{OffsetFunction}
 use Rattle.vtl_syntax.specs.declared.words.TimeFunction.{TimeFunction}
@@ -25,25 +27,26 @@ use Rattle.vtl_syntax.specs.declared.expr.JoinOperand.{JoinOperand}
 use Rattle.vtl_syntax.specs.declared.expr.Over.{Over}
 use Rattle.vtl_syntax.specs.declared.expr.SubstrRange.{SubstrRange}
 use Rattle.scalar_trees.specs.WellTyped.{Kinds, in_range}
-use Rattle.typing_rules.specs.declared.stop.Fault.{Fault}
-use Rattle.typing_rules.specs.declared.stop.Refusal.{Refusal}
-use Rattle.typing_rules.specs.declared.stop.Fault.TheVariants.{UnknownComponent, WrongType, WrongStructure, NameTwice}
-use Rattle.typing_rules.specs.Scalars.{literal_typed, if_typed, sort_typed, place_of}
-use Rattle.typing_rules.specs.Sound.{IsTyped}
-use Rattle.typing_rules.specs.Steps.{◌>>=◌, or_refused, demanded}
-use Rattle.typing_rules.proofs.Sound.{both, left, right, if-typed, sort-typed}
-use Rattle.typing_rules.proofs.SoundSets.{literal-typed}
-use Rattle.clause_trees.specs.declared.clause.CheckedClause.{CheckedClause}
-use Rattle.clause_trees.specs.declared.clause.CheckedClause.TheVariants as clause
-use Rattle.clause_trees.specs.declared.clause.CheckedMeasure.{CheckedMeasure}
-use Rattle.clause_trees.specs.Frames.{frame_of}
-use Rattle.clause_trees.specs.Clauses.{demands}
-use Rattle.clause_trees.specs.WellTyped.{kinds_on, is_of}
-use Rattle.aggregate_trees.specs.Aggregates.{aggregate_checked, aggr_checked}
-use Rattle.aggregate_trees.specs.Results.{grouped}
-use Rattle.window_trees.specs.Windows.{window_checked, offset_checked}
-use Rattle.time_trees.specs.Times as times
-use Rattle.time_trees.specs.Times.{time_checked, shift_checked, fill_checked}
+use Rattle.scalar_trees.specs.declared.typing.stop.Fault.{Fault}
+use Rattle.scalar_trees.specs.declared.typing.stop.Refusal.{Refusal}
+use Rattle.scalar_trees.specs.declared.typing.stop.Fault.TheVariants.{UnknownComponent, WrongType, WrongStructure, NameTwice}
+use Rattle.scalar_trees.specs.typing.Scalars.{literal_typed, if_typed, sort_typed, place_of}
+use Rattle.scalar_trees.specs.typing.Sound.{IsTyped}
+use Rattle.scalar_trees.specs.typing.Steps.{◌>>=◌, or_refused, demanded}
+use Rattle.scalar_trees.proofs.typing.Sound.{both, left, right, if-typed, sort-typed}
+use Rattle.scalar_trees.proofs.typing.SoundSets.{literal-typed}
+use Rattle.data_set_trees.specs.declared.clauses.clause.CheckedClause.{CheckedClause}
+use Rattle.data_set_trees.specs.declared.clauses.clause.CheckedClause.TheVariants as clause
+use Rattle.data_set_trees.specs.declared.clauses.clause.CheckedMeasure.{CheckedMeasure}
+use Rattle.data_set_trees.specs.clauses.Frames.{frame_of}
+use Rattle.data_set_trees.specs.clauses.Clauses.{demands}
+use Rattle.data_set_trees.specs.clauses.WellTyped.{kinds_on, is_of}
+use Rattle.data_set_trees.specs.aggregates.Aggregates.{aggregate_checked, aggr_checked}
+use Rattle.data_set_trees.specs.aggregates.Results.{grouped}
+use Rattle.data_set_trees.specs.windows.Windows.{window_checked, offset_checked}
+use Rattle.data_set_trees.specs.times.Times as times
+use Rattle.data_set_trees.specs.times.Times.{time_checked, shift_checked, fill_checked}
+use Rattle.data_set_trees.specs.declared.rules.rules.RuleError.{RuleError}
 use Rattle.data_set_trees.specs.declared.form.Form.{Form}
 use Rattle.data_set_trees.specs.declared.measure.Measure.{Measure}
 use Rattle.data_set_trees.specs.declared.operand.DataSet.{DataSet}
@@ -55,6 +58,7 @@ use Rattle.data_set_trees.specs.declared.tree.DataSetOperator.TheVariants as ope
 use Rattle.data_set_trees.specs.declared.tree.SetOperation.{SetOperation}
 use Rattle.data_set_trees.specs.declared.tree.Source.{Source}
 use Rattle.data_set_trees.specs.Components.{measures, virals_agree, are_alike, unlisted}
+use Rattle.data_set_trees.specs.Checks.{told_fits, tells, is_numeric, is_imbalance_of, if_imbalance, check_structure}
 use Rattle.data_set_trees.specs.Choices.{condition_fits, branches_fit, structures_fit, choice_measures, first_measures, choice_structure, chosen_ids, branch_of, choice_on, choice_typed}
 use Rattle.data_set_trees.specs.Exists.{common_agree, exists_structure, exists_typed}
 use Rattle.expression_rules.specs.Expressions.{sorted, named_typed}
@@ -62,12 +66,13 @@ use Rattle.data_set_trees.specs.Forms.{changed_name, is_of_two}
 use Rattle.data_set_trees.specs.Lifted.{answer, each_fits, all_fit, has_one_if, is_free, set_place, measures_checked, on_none, on_one, on_many}
 use Rattle.data_set_trees.specs.Members.{member_from, member_typed}
 use Rattle.expression_rules.specs.OnClauses.{clause_checked, on_points, by_form, on_clause}
+use Rattle.expression_rules.specs.OnChecks as checks
 use Rattle.expression_rules.specs.OnSets as rules
 use Rattle.expression_rules.specs.OnSets.{with_operator, on_set, on_aggregate, on_aggr, on_window, on_offset, on_time, on_shift, on_fill}
 use Rattle.data_set_trees.specs.Pairs.{identifiers_agree, measures_agree, meeting, both as both_slots, joined, result_fits, pairs_checked, on_two, lifted_on, lifted}
 use Rattle.data_set_trees.specs.Sets.{all_data_sets, set_of, sets_typed}
 use Rattle.data_set_trees.specs.Trees.{SetAnswer, applied, with_clause, data_sets}
-use Rattle.checked_trees.specs.Operators.{an_operator, kinds_on_both, IsPairOf, IsTypedPair, IsTypedSet, IsTypedExists, IsTypedChoice, TakesOperands}
+use Rattle.data_set_trees.specs.checked.Operators.{an_operator, kinds_on_both, IsPairOf, IsTypedPair, IsTypedSet, IsTypedExists, IsTypedChoice, IsTypedCheck, TakesOperands}
 use Rattle.fitting_trees.specs.Fitting.{IsFitting}
 use Rattle.literal_ranges.specs.Ranges.{if_given, all_are, clause_in_range, groups_in_range, item_in_range}
 use Rattle.fitting_trees.proofs.Aggregates.{aggregate-typed, aggr-typed}
@@ -259,6 +264,58 @@ module _ (structures : Source → Option (List Component)) (among : Source → T
   sets_typed-fits operation place os all o e =
       let sets = gave (or_refused (all_data_sets os) WrongStructure place) (set_of operation place) o e in
       set_of-fits operation place sets.0 (all_sets-fit os sets.0 all (or-given (all_data_sets os) WrongStructure place sets.0 sets.1)) o sets.2
+
+  -- ---- checks
+
+  -- there is one operand, and an imbalance beside it or none
+  operands-are : (d : DataSet) (ds : List DataSet) → checks.at_most_one (checks.structures_of ds) ≡ true → checks.structures_of (d ∷ ds) ≡ d.structure ∷ option_to_list (checks.imbalance_in (checks.structures_of ds))
+  operands-are d [] few = refl
+  operands-are d (e ∷ []) few = refl
+  operands-are d (e ∷ f ∷ more) few = cc
+
+  -- what a check asks for holds, and its result is what it says
+  check-takes : (error : RuleError) (said : Option CheckOutput) (place : Place) (d : DataSet) (ds : List DataSet) (structure : List Component) → checks.at_most_one (checks.structures_of ds) ≡ true
+      → checks.check_gives place d.structure (checks.imbalance_in (checks.structures_of ds)) ≡ Ok structure → IsTypedCheck (checks.check_of error said (checks.structures_of ds)) (checks.structures_of (d ∷ ds)) structure
+  check-takes error said place d ds structure few e =
+      let s = d.structure in
+      let imbalance = checks.imbalance_in (checks.structures_of ds) in
+      let result = check_structure s imbalance in
+      let numeric = if_imbalance is_numeric imbalance in
+      let belongs = if_imbalance (is_imbalance_of s) imbalance in
+      let kinds = told_fits s && numeric in
+      let shape = tells s && belongs in
+      let asks : List (Bool × Fault) = (kinds, WrongType) ∷ (shape, WrongStructure) ∷ [] in
+      let met = gave (demands place asks) (λ met. result_fits place result >>= (λ fits. Ok result)) structure e in
+      let fits = gave (result_fits place result) (λ fits. Ok result) structure met.2 in
+      let all = demands-hold place asks met.0 met.1 in
+      let of_kinds = left kinds (shape && true) all in
+      let of_shape = left shape true (right kinds (shape && true) all) in
+      record {
+        checked = s;
+        imbalance = imbalance;
+        has = refl;
+        operands_are = operands-are d ds few;
+        truth = both (told_fits s) (tells s) (left (told_fits s) numeric of_kinds) (left (tells s) belongs of_shape);
+        numeric = right (told_fits s) numeric of_kinds;
+        belongs = right (tells s) belongs of_shape;
+        gives = sym (answered result structure fits.2);
+      }
+
+  checked-fits : (error : RuleError) (said : Option CheckOutput) (place : Place) (ds : List DataSet) → All SetFits ds → Fits (checks.checked error said place ds)
+  checked-fits error said place [] all o e = cc
+  checked-fits error said place (d ∷ ds) all o e =
+      let others = checks.structures_of ds in
+      let check = checks.check_of error said others in
+      let set : List Component → DataSet = λ structure. applied (operator.Check check) place (d ∷ ds) structure in
+      let structure = gave (checks.check_on place (checks.structures_of (d ∷ ds))) (λ structure. Ok (operand.DataSet (set structure))) o e in
+      let few = gave (demanded (checks.at_most_one others) WrongStructure place) (λ few. checks.check_gives place d.structure (checks.imbalance_in others)) structure.0 structure.1 in
+      let takes = check-takes error said place d ds structure.0 (demanded-holds (checks.at_most_one others) WrongStructure place few.0 few.1) few.2 in
+      given-fits (operand.DataSet (set structure.0)) o (applied-fits structures among (operator.Check check) place (d ∷ ds) structure.0 all takes) structure.2
+
+  pub check_typed-fits : (error : RuleError) (said : Option CheckOutput) (place : Place) (os : List Operand) → All IsFit os → Fits (checks.check_typed error said place os)
+  check_typed-fits error said place os all o e =
+      let sets = gave (or_refused (all_data_sets os) WrongStructure place) (checks.checked error said place) o e in
+      checked-fits error said place sets.0 (all_sets-fit os sets.0 all (or-given (all_data_sets os) WrongStructure place sets.0 sets.1)) o sets.2
 
   -- ---- conditionals
 

@@ -15,22 +15,22 @@ use Rattle.vtl_syntax.specs.declared.words.AggregateFunction.{AggregateFunction}
 use Rattle.scalar_trees.specs.declared.operators.BinaryOperator.{BinaryOperator}
 use Rattle.scalar_trees.specs.declared.operators.BinaryOperator.TheVariants as binary
 use Rattle.scalar_trees.specs.WellTyped.{Kinds, in_range}
-use Rattle.typing_rules.specs.declared.scope.Basis.{Basis}
-use Rattle.typing_rules.specs.declared.scope.Basis.TheVariants.{Point, Group}
-use Rattle.typing_rules.specs.declared.scope.Scope.{Scope}
-use Rattle.typing_rules.specs.declared.stop.Fault.TheVariants.{WrongStructure}
-use Rattle.typing_rules.specs.declared.stop.Refusal.{Refusal}
-use Rattle.typing_rules.specs.declared.typed.Typed.{Typed}
-use Rattle.typing_rules.specs.Operators.{prefix_operator, unary_operator, or_operator, sum_operator, product_operator, comparison_operator}
-use Rattle.typing_rules.specs.Scopes.{kinds_of}
-use Rattle.typing_rules.specs.Scalars.{Answer, Meaning, RangeMeaning, literal_typed, unary_typed, binary_typed, function_typed, if_typed, in_typed, between_typed, round_typed, substr_typed, replace_typed, matches_typed, sort_typed, aggregate_typed, aggregate_at, visited, misplaced, typed_if, member_typed, clause_place, step, typed_step, operand_step, range_step, meaning, operand_meaning, typed}
-use Rattle.typing_rules.specs.Sound.{IsTyped, IsTypedIf}
-use Rattle.typing_rules.specs.Steps.{◌>>=◌, refused}
-use Rattle.typing_rules.proofs.Folds.{Trees, Meanings}
-use Rattle.typing_rules.proofs.Levels.{Family, Maps, over-Expr, over-SubstrRange}
-use Rattle.typing_rules.proofs.Sound.{left, right, unary-typed, binary-typed, function-typed, if-typed, round-typed, matches-typed, substr-typed, replace-typed, sort-typed}
-use Rattle.typing_rules.proofs.SoundSets.{literal-typed, in-typed, between-typed}
-use Rattle.typing_rules.proofs.SoundNames.{named-typed, member-typed, count-typed, aggregate-typed}
+use Rattle.scalar_trees.specs.declared.typing.scope.Basis.{Basis}
+use Rattle.scalar_trees.specs.declared.typing.scope.Basis.TheVariants.{Point, Group}
+use Rattle.scalar_trees.specs.declared.typing.scope.Scope.{Scope}
+use Rattle.scalar_trees.specs.declared.typing.stop.Fault.TheVariants.{WrongStructure}
+use Rattle.scalar_trees.specs.declared.typing.stop.Refusal.{Refusal}
+use Rattle.scalar_trees.specs.declared.typing.typed.Typed.{Typed}
+use Rattle.scalar_trees.specs.typing.Operators.{prefix_operator, unary_operator, or_operator, sum_operator, product_operator, comparison_operator}
+use Rattle.scalar_trees.specs.typing.Scopes.{kinds_of}
+use Rattle.scalar_trees.specs.typing.Scalars.{Answer, Meaning, RangeMeaning, literal_typed, unary_typed, binary_typed, function_typed, if_typed, in_typed, between_typed, round_typed, substr_typed, replace_typed, matches_typed, sort_typed, aggregate_typed, aggregate_at, visited, misplaced, typed_if, member_typed, clause_place, step, typed_step, operand_step, range_step, meaning, operand_meaning, typed}
+use Rattle.scalar_trees.specs.typing.Sound.{IsTyped, IsTypedIf}
+use Rattle.scalar_trees.specs.typing.Steps.{◌>>=◌, refused}
+use Rattle.scalar_trees.proofs.typing.Folds.{Trees, Meanings}
+use Rattle.scalar_trees.proofs.typing.Levels.{Family, Maps, over-Expr, over-SubstrRange}
+use Rattle.scalar_trees.proofs.typing.Sound.{left, right, unary-typed, binary-typed, function-typed, if-typed, round-typed, matches-typed, substr-typed, replace-typed, sort-typed}
+use Rattle.scalar_trees.proofs.typing.SoundSets.{literal-typed, in-typed, between-typed}
+use Rattle.scalar_trees.proofs.typing.SoundNames.{named-typed, member-typed, count-typed, aggregate-typed}
 use Rattle.literal_ranges.specs.Ranges.{range_step as ranged, clause_range_step, item_range_step, operand_range_step, part_range_step, groups_range_step, literals_in_range, clause_in_range, groups_in_range, item_in_range, part_in_range}
 
 -- what steps gave that gave something

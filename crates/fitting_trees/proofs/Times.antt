@@ -7,15 +7,15 @@ use Rattle.vtl_values.specs.declared.structure.Component.{Component}
 use Rattle.vtl_syntax.specs.declared.words.FillSpan.{FillSpan}
 use Rattle.vtl_syntax.specs.declared.words.FillSpan.TheVariants as span
 use Rattle.vtl_syntax.specs.declared.words.TimeFunction.{TimeFunction}
-use Rattle.typing_rules.specs.declared.stop.Fault.TheVariants.{WrongType, WrongStructure, NameTwice, TooManyComponents, BadConstant}
-use Rattle.typing_rules.specs.Steps.{◌>>=◌, or_refused}
-use Rattle.typing_rules.proofs.Sound.{both, left}
-use Rattle.clause_trees.specs.Clauses.{demands}
-use Rattle.aggregate_trees.proofs.Grouped.{met}
-use Rattle.time_trees.specs.declared.time.CheckedTime.{CheckedTime}
-use Rattle.time_trees.specs.declared.time.CheckedTime.TheVariants as time
-use Rattle.time_trees.specs.Times.{is_period, period_number, takes_kinds, stands_apart, finds_room, MOST_PLACES, time_checked, shift_checked, fill_checked}
-use Rattle.checked_trees.specs.Uses.{is_at, is_series}
+use Rattle.scalar_trees.specs.declared.typing.stop.Fault.TheVariants.{WrongType, WrongStructure, NameTwice, TooManyComponents, BadConstant}
+use Rattle.scalar_trees.specs.typing.Steps.{◌>>=◌, or_refused}
+use Rattle.scalar_trees.proofs.typing.Sound.{both, left}
+use Rattle.data_set_trees.specs.clauses.Clauses.{demands}
+use Rattle.data_set_trees.proofs.aggregates.Grouped.{met}
+use Rattle.data_set_trees.specs.declared.times.time.CheckedTime.{CheckedTime}
+use Rattle.data_set_trees.specs.declared.times.time.CheckedTime.TheVariants as time
+use Rattle.data_set_trees.specs.times.Times.{is_period, period_number, takes_kinds, stands_apart, finds_room, MOST_PLACES, time_checked, shift_checked, fill_checked}
+use Rattle.data_set_trees.specs.checked.Uses.{is_at, is_series}
 use Rattle.fitting_trees.proofs.Scalars.{answered, gave}
 
 at-number : (p : Component → Bool) (cs : List Component) (n : ℕ) (d : Component) → n < length cs → p (get_or cs n d) ≡ true → is_at p cs n ≡ true

@@ -14,29 +14,29 @@ use Rattle.vtl_values.specs.declared.structure.Component.{Component}
 use Rattle.scalar_trees.specs.declared.tree.CheckedExpr.{CheckedExpr}
 use Rattle.scalar_trees.specs.Kinds.{ANY, agreed, literal_kind}
 use Rattle.scalar_trees.specs.WellTyped.{Kinds, is_kind, is_of_kind}
-use Rattle.typing_rules.specs.declared.scope.Basis.TheVariants.{Point}
-use Rattle.typing_rules.specs.declared.scope.Column.{Column}
-use Rattle.typing_rules.specs.Scopes.{column_of, kinds_of}
-use Rattle.clause_trees.specs.declared.clause.CheckedClause.{CheckedClause}
-use Rattle.clause_trees.specs.declared.clause.CheckedClause.TheVariants as clause
-use Rattle.clause_trees.specs.declared.clause.CheckedItem.{CheckedItem}
-use Rattle.clause_trees.specs.declared.clause.CheckedMeasure.{CheckedMeasure}
-use Rattle.clause_trees.specs.declared.clause.CheckedRename.{CheckedRename}
-use Rattle.clause_trees.specs.declared.clause.CheckedSubItem.{CheckedSubItem}
-use Rattle.clause_trees.specs.declared.clause.Target.{Target}
-use Rattle.clause_trees.specs.declared.clause.Target.TheVariants.{Old, New}
-use Rattle.clause_trees.specs.declared.frame.Frame.{Frame}
-use Rattle.clause_trees.specs.Frames.{is_role, has_role, numbers_of, kept, by_role, added, changed_at}
-use Rattle.clause_trees.specs.After.{made, put, with_item, calculated, always_stays, is_kept, is_left, with_rename, renamed, staying, with_measure, measured, measure_kind, unpivoted, after}
-use Rattle.clause_trees.specs.Clauses.{passes_at, may_be_target, is_comparable, is_of_measure_kind, are_alike}
-use Rattle.clause_trees.specs.WellTyped.{kinds_on, is_of, may_be_made, is_item, is_component, is_well_typed}
-use Rattle.clause_trees.proofs.Changes.{changed-later}
-use Rattle.clause_trees.proofs.Ordered.{part}
-use Rattle.clause_trees.proofs.Parts.{left_from, picked_are}
+use Rattle.scalar_trees.specs.declared.typing.scope.Basis.TheVariants.{Point}
+use Rattle.scalar_trees.specs.declared.typing.scope.Column.{Column}
+use Rattle.scalar_trees.specs.typing.Scopes.{column_of, kinds_of}
+use Rattle.data_set_trees.specs.declared.clauses.clause.CheckedClause.{CheckedClause}
+use Rattle.data_set_trees.specs.declared.clauses.clause.CheckedClause.TheVariants as clause
+use Rattle.data_set_trees.specs.declared.clauses.clause.CheckedItem.{CheckedItem}
+use Rattle.data_set_trees.specs.declared.clauses.clause.CheckedMeasure.{CheckedMeasure}
+use Rattle.data_set_trees.specs.declared.clauses.clause.CheckedRename.{CheckedRename}
+use Rattle.data_set_trees.specs.declared.clauses.clause.CheckedSubItem.{CheckedSubItem}
+use Rattle.data_set_trees.specs.declared.clauses.clause.Target.{Target}
+use Rattle.data_set_trees.specs.declared.clauses.clause.Target.TheVariants.{Old, New}
+use Rattle.data_set_trees.specs.declared.clauses.frame.Frame.{Frame}
+use Rattle.data_set_trees.specs.clauses.Frames.{is_role, has_role, numbers_of, kept, by_role, added, changed_at}
+use Rattle.data_set_trees.specs.clauses.After.{made, put, with_item, calculated, always_stays, is_kept, is_left, with_rename, renamed, staying, with_measure, measured, measure_kind, unpivoted, after}
+use Rattle.data_set_trees.specs.clauses.Clauses.{passes_at, may_be_target, is_comparable, is_of_measure_kind, are_alike}
+use Rattle.data_set_trees.specs.clauses.WellTyped.{kinds_on, is_of, may_be_made, is_item, is_component, is_well_typed}
+use Rattle.data_set_trees.proofs.clauses.Changes.{changed-later}
+use Rattle.data_set_trees.proofs.clauses.Ordered.{part}
+use Rattle.data_set_trees.proofs.clauses.Parts.{left_from, picked_are}
 use Rattle.data_set_trees.specs.Components.{unlisted}
 use Rattle.data_set_trees.specs.Joins.{numbered}
 use Rattle.expression_rules.specs.JoinClauses.{Placed, structure_before}
-use Rattle.checked_trees.specs.Operators.{unnamed}
+use Rattle.data_set_trees.specs.checked.Operators.{unnamed}
 
 -- a component of a result, without its name
 abbrev pub plain : Component → Component

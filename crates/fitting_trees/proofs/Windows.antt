@@ -16,29 +16,29 @@ use Rattle.vtl_syntax.specs.declared.words.WindowFunction.{WindowFunction}
 use Rattle.vtl_syntax.specs.declared.words.WindowFunction.TheVariants.{Sum, Avg, Count, Min, Max, Median, FirstValue, LastValue, RatioToReport}
 use Rattle.scalar_trees.specs.Kinds.{ANY, agreed}
 use Rattle.scalar_trees.specs.WellTyped.{is_kind}
-use Rattle.typing_rules.specs.declared.stop.Fault.TheVariants.{UnknownComponent, WrongType, WrongStructure, WrongRole, NameTwice, TooManyComponents, BadConstant}
-use Rattle.typing_rules.proofs.Sound.{is_kind-refl, both, left, right}
-use Rattle.clause_trees.specs.declared.clause.CheckedRename.{CheckedRename}
-use Rattle.clause_trees.specs.declared.frame.Frame.{Frame}
-use Rattle.clause_trees.specs.After.{is_among}
-use Rattle.clause_trees.specs.Clauses.{bare_number_of, passes_at}
-use Rattle.clause_trees.specs.Frames.{frame_of, has_role, numbers_of}
-use Rattle.clause_trees.specs.WellTyped.{is_component}
-use Rattle.clause_trees.proofs.Typed.{renames_there}
-use Rattle.aggregate_trees.specs.Aggregates.{has_room, names_differ}
-use Rattle.aggregate_trees.proofs.Grouped.{met}
-use Rattle.window_trees.specs.declared.analytic.Analytic.{Analytic}
-use Rattle.window_trees.specs.declared.analytic.Analytic.TheVariants as analytic
-use Rattle.window_trees.specs.declared.analytic.AnalyticMeasure.{AnalyticMeasure}
-use Rattle.window_trees.specs.declared.analytic.CheckedWindow.{CheckedWindow}
-use Rattle.window_trees.specs.declared.analytic.CheckedWindow.TheVariants as window
-use Rattle.window_trees.specs.declared.analytic.OrderedBy.{OrderedBy}
-use Rattle.window_trees.specs.Functions.{takes_window, window_gives, window_takes}
-use Rattle.window_trees.specs.Parts.{is_offset, knows, may_part, named_numbers, order_items, ordered_by, partition_names, parts_of, points_within}
-use Rattle.window_trees.specs.Results.{unordered}
-use Rattle.window_trees.specs.WellTyped.{are_parts, gives_of, is_analytic, is_of_kind}
-use Rattle.window_trees.specs.Windows.{may_state, measures_typed, offset_checked, on_measures, points_counted, takes_all, window_checked, window_items, window_of, with_parts}
-use Rattle.checked_trees.specs.Operators.{is_window}
+use Rattle.scalar_trees.specs.declared.typing.stop.Fault.TheVariants.{UnknownComponent, WrongType, WrongStructure, WrongRole, NameTwice, TooManyComponents, BadConstant}
+use Rattle.scalar_trees.proofs.typing.Sound.{is_kind-refl, both, left, right}
+use Rattle.data_set_trees.specs.declared.clauses.clause.CheckedRename.{CheckedRename}
+use Rattle.data_set_trees.specs.declared.clauses.frame.Frame.{Frame}
+use Rattle.data_set_trees.specs.clauses.After.{is_among}
+use Rattle.data_set_trees.specs.clauses.Clauses.{bare_number_of, passes_at}
+use Rattle.data_set_trees.specs.clauses.Frames.{frame_of, has_role, numbers_of}
+use Rattle.data_set_trees.specs.clauses.WellTyped.{is_component}
+use Rattle.data_set_trees.proofs.clauses.Typed.{renames_there}
+use Rattle.data_set_trees.specs.aggregates.Aggregates.{has_room, names_differ}
+use Rattle.data_set_trees.proofs.aggregates.Grouped.{met}
+use Rattle.data_set_trees.specs.declared.windows.analytic.Analytic.{Analytic}
+use Rattle.data_set_trees.specs.declared.windows.analytic.Analytic.TheVariants as analytic
+use Rattle.data_set_trees.specs.declared.windows.analytic.AnalyticMeasure.{AnalyticMeasure}
+use Rattle.data_set_trees.specs.declared.windows.analytic.CheckedWindow.{CheckedWindow}
+use Rattle.data_set_trees.specs.declared.windows.analytic.CheckedWindow.TheVariants as window
+use Rattle.data_set_trees.specs.declared.windows.analytic.OrderedBy.{OrderedBy}
+use Rattle.data_set_trees.specs.windows.Functions.{takes_window, window_gives, window_takes}
+use Rattle.data_set_trees.specs.windows.Parts.{is_offset, knows, may_part, named_numbers, order_items, ordered_by, partition_names, parts_of, points_within}
+use Rattle.data_set_trees.specs.windows.Results.{unordered}
+use Rattle.data_set_trees.specs.windows.WellTyped.{are_parts, gives_of, is_analytic, is_of_kind}
+use Rattle.data_set_trees.specs.windows.Windows.{may_state, measures_typed, offset_checked, on_measures, points_counted, takes_all, window_checked, window_items, window_of, with_parts}
+use Rattle.data_set_trees.specs.checked.Operators.{is_window}
 use Rattle.fitting_trees.proofs.Numbered.{asked, made-all, always-all, one-of-all, numbers-all, TakesOwn, any-own, numeric-own}
 use Rattle.fitting_trees.proofs.Scalars.{answered}
 

@@ -18,7 +18,7 @@ use Rattle.data_set_trees.specs.Components.{identifiers}
 use Rattle.held_index.specs.Holdings.{Holding, operand}
 use Rattle.held_index.specs.Rules.{after_news}
 use Rattle.pair_ops.proofs.Meetings.{long-key}
-use Rattle.join_meaning.specs.Joins.{JoinOn}
+use Rattle.operator_meaning.specs.joins.Joins.{JoinOn}
 use Rattle.join_eval.specs.Plans.{structure_of}
 use Rattle.outer_joins.proofs.Looked.{as-many-after}
 use Rattle.outer_joins.proofs.Right.{AllZip-length}

@@ -14,7 +14,7 @@ use Rattle.point_sets.specs.DataSets.{DataSet}
 use Rattle.held_index.specs.Holdings.{Holding, contents, holding_of, operand}
 use Rattle.held_index.specs.Reach.{changes_in}
 use Rattle.held_index.specs.Wants.{whole}
-use Rattle.join_meaning.specs.Joins.{JoinOn}
+use Rattle.operator_meaning.specs.joins.Joins.{JoinOn}
 use Rattle.join_eval.specs.Plans.{structure_of}
 use Rattle.pair_ops.specs.Noted.{walk_steps}
 use Rattle.pair_ops.specs.Reach.{NamedValue, held_of, main_points, matching_reach, met_keys, named_values, pairs_with}

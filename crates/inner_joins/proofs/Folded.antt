@@ -24,7 +24,7 @@ use Rattle.point_sets.proofs.Changes.{values_eq-IsEqualityTest}
 use Rattle.held_index.specs.Drafts.{SetDraft}
 use Rattle.held_index.specs.Holdings.{Holding}
 use Rattle.held_index.specs.Rules.{after_news}
-use Rattle.join_meaning.specs.Joins.{JoinOn, join_working}
+use Rattle.operator_meaning.specs.joins.Joins.{JoinOn, join_working}
 use Rattle.outer_joins.proofs.Looked.{arc-at}
 use Rattle.inner_joins.specs.Noted.{news_of, noted_key, IsNoted, Notes}
 

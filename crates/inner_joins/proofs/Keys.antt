@@ -10,16 +10,16 @@ use Rattle.vtl_values.specs.declared.structure.Component.{Component}
 use Rattle.vtl_values.specs.declared.value.Value.{Value}
 use Rattle.vtl_syntax.specs.declared.words.JoinFunction.TheVariants.{Inner, Cross}
 use Rattle.clause_meaning.specs.Clauses.{values_at}
-use Rattle.clause_trees.specs.Frames.{has_role}
+use Rattle.data_set_trees.specs.clauses.Frames.{has_role}
 use Rattle.data_set_trees.specs.Components.{identifiers, include}
 use Rattle.held_index.specs.Walks.{part_key}
-use Rattle.pair_meaning.proofs.Keys.{names, names-apart, key-picked}
-use Rattle.pair_meaning.proofs.Names.{Apart}
+use Rattle.operator_meaning.proofs.pairs.Keys.{names, names-apart, key-picked}
+use Rattle.operator_meaning.proofs.pairs.Names.{Apart}
 use Rattle.pair_ops.proofs.Parts.{part_key-between}
-use Rattle.join_meaning.specs.Joins.{JoinOn, is_whole, key_components, places_of}
-use Rattle.join_meaning.proofs.Covered.{fits}
-use Rattle.join_meaning.proofs.Numbers.{values-picked}
-use Rattle.join_meaning.proofs.Typed.{places-are, key-long, key-back, key-partner, key-forth, own-long}
+use Rattle.operator_meaning.specs.joins.Joins.{JoinOn, is_whole, key_components, places_of}
+use Rattle.operator_meaning.proofs.joins.Covered.{fits}
+use Rattle.operator_meaning.proofs.joins.Numbers.{values-picked}
+use Rattle.operator_meaning.proofs.joins.Typed.{places-are, key-long, key-back, key-partner, key-forth, own-long}
 use Rattle.join_eval.specs.Plans.{own_key, structure_of}
 use Rattle.inner_joins.specs.Rules.{key_from, main_number, partner_numbers, IsInnerOn}
 

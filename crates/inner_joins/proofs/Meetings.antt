@@ -13,7 +13,7 @@ use Rattle.data_set_trees.specs.Components.{identifiers}
 use Rattle.held_index.specs.Holdings.{Holding, operand, part_of}
 use Rattle.held_index.specs.Rules.{after_news}
 use Rattle.held_index.specs.Walks.{PointValues}
-use Rattle.join_meaning.specs.Joins.{JoinOn}
+use Rattle.operator_meaning.specs.joins.Joins.{JoinOn}
 use Rattle.join_eval.specs.Plans.{own_key, structure_of}
 use Rattle.pair_ops.proofs.Parts.{IsInPart, all_in_part}
 use Rattle.inner_joins.specs.Noted.{held_for, news_of, points_met, AreBehind, Has, IsMet, IsOfChange}

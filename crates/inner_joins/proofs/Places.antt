@@ -13,7 +13,7 @@ use Rattle.held_index.specs.Holdings.{Holding, contents, holding_of, operand, Is
 use Rattle.held_index.specs.Wants.{whole}
 use Rattle.held_index.specs.declared.want.Want.{Want}
 use Rattle.held_index.proofs.WantLemmas.{whole-plain}
-use Rattle.join_meaning.specs.Joins.{JoinOn}
+use Rattle.operator_meaning.specs.joins.Joins.{JoinOn}
 use Rattle.inner_joins.specs.Noted.{held_for}
 use Rattle.inner_joins.specs.Rules.{main_number, number_at, others_of, parts_for, place_of, wants_on}
 

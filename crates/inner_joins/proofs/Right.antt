@@ -32,7 +32,7 @@ use Rattle.clause_meaning.specs.Clauses.{values_at}
 use Rattle.clause_meaning.proofs.Lists.{listed-flat_map}
 use Rattle.clause_meaning.proofs.Picked.{AllZip-weaker}
 use Rattle.data_set_trees.specs.declared.tree.DataSetOperator.TheVariants.{Join}
-use Rattle.checked_trees.specs.Operators.{an_operator, Operator}
+use Rattle.data_set_trees.specs.checked.Operators.{an_operator, Operator}
 use Rattle.operator_meaning.specs.Operators.{meaning_of, AreOperands}
 use Rattle.held_index.specs.Drafts.{SetDraft}
 use Rattle.held_index.specs.Holdings.{Holding, operand, part_of}
@@ -40,11 +40,11 @@ use Rattle.held_index.specs.Rules.{SetOutcome, answer_of, after_news, AreAsked, 
 use Rattle.held_index.specs.Walks.{PointValues, part_key}
 use Rattle.held_index.specs.declared.stop.Stop.{Stop}
 use Rattle.held_index.proofs.Rules.{IsRightAnswer-finished}
-use Rattle.pair_meaning.proofs.Names.{either-left, either-right}
+use Rattle.operator_meaning.proofs.pairs.Names.{either-left, either-right}
 use Rattle.pair_ops.proofs.Parts.{listed-part}
-use Rattle.join_meaning.specs.Joins.{JoinOn, is_key, key_components, join_keys, joined_point, joined_values, join_meaning, join_working, own_places, points_at, stays}
-use Rattle.join_meaning.proofs.Covered.{join-covered}
-use Rattle.join_meaning.proofs.Crossed.{listed-map}
+use Rattle.operator_meaning.specs.joins.Joins.{JoinOn, is_key, key_components, join_keys, joined_point, joined_values, join_meaning, join_working, own_places, points_at, stays}
+use Rattle.operator_meaning.proofs.joins.Covered.{join-covered}
+use Rattle.operator_meaning.proofs.joins.Crossed.{listed-map}
 use Rattle.join_eval.specs.Plans.{own_key}
 use Rattle.join_eval.proofs.Kept.{length-places}
 use Rattle.inner_joins.specs.Noted.{all_keys, held_for, keys_met, keys_of, news_of, noted_key, AreBehind, Notes}

@@ -12,8 +12,8 @@ use Rattle.point_sets.specs.DataSets.{DataSet}
 use Rattle.held_index.specs.Drafts.{SetDraft}
 use Rattle.held_index.specs.Holdings.{Holding, contents, operand, IsPlain}
 use Rattle.held_index.specs.Rules.{after_news}
-use Rattle.join_meaning.specs.Joins.{JoinOn, joined_point, join_working, key_components, points_at}
-use Rattle.join_meaning.proofs.Covered.{working-at}
+use Rattle.operator_meaning.specs.joins.Joins.{JoinOn, joined_point, join_working, key_components, points_at}
+use Rattle.operator_meaning.proofs.joins.Covered.{working-at}
 use Rattle.join_eval.specs.Plans.{own_key}
 use Rattle.inner_joins.specs.Noted.{news_of, noted_key, AreBehind, Has}
 use Rattle.inner_joins.specs.Rules.{main_number, place_of, wants_on}

@@ -9,14 +9,14 @@ use Rattle.std.proofs.lemmas.List.FromFn.{map-range_with_len_more}
 use Rattle.std.proofs.lemmas.List.Quantifiers.{position-Some}
 use Rattle.vtl_values.specs.declared.kind.Role.TheVariants.{Identifier}
 use Rattle.vtl_values.specs.declared.structure.Component.{Component}
-use Rattle.clause_trees.specs.Frames.{has_role}
+use Rattle.data_set_trees.specs.clauses.Frames.{has_role}
 use Rattle.data_set_trees.specs.Components.{identifiers, has_name}
 use Rattle.data_set_trees.specs.declared.tree.DataSetOperator.{DataSetOperator}
-use Rattle.checked_trees.specs.Operators.{an_operator, Operator, IsTyped, TakesOperands}
+use Rattle.data_set_trees.specs.checked.Operators.{an_operator, Operator, IsTyped, TakesOperands}
 use Rattle.held_index.specs.Holdings.{FitsStructure}
 use Rattle.held_index.specs.declared.want.Want.{Want}
 use Rattle.held_index.proofs.WantLemmas.{in_parts-fits, whole-fits}
-use Rattle.join_meaning.specs.Joins.{JoinOn, numbers_among}
+use Rattle.operator_meaning.specs.joins.Joins.{JoinOn, numbers_among}
 use Rattle.join_eval.specs.Plans.{structure_of}
 use Rattle.inner_joins.specs.Rules.{join_in, main_number, number_at, partner_numbers, wanted_of, wants_on, IsInner, IsInnerOn}
 use Rattle.inner_joins.proofs.Keys.{main-within}

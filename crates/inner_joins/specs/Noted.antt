@@ -15,7 +15,7 @@ use Rattle.held_index.specs.Holdings.{Holding, contents, holding_of, operand, pa
 use Rattle.held_index.specs.Rules.{after_news}
 use Rattle.held_index.specs.Walks.{PointValues}
 use Rattle.join_eval.specs.Plans.{own_key}
-use Rattle.join_meaning.specs.Joins.{JoinOn, join_working, key_components}
+use Rattle.operator_meaning.specs.joins.Joins.{JoinOn, join_working, key_components}
 use Rattle.inner_joins.specs.Rules.{key_from, main_number, parts_for, place_of, wants_on}
 use Rattle.inner_joins.specs.declared.notes.Meeting.{Meeting}
 use Rattle.inner_joins.specs.declared.notes.Partner.{Partner}

@@ -5,7 +5,7 @@ use Rattle.std.specs.FinMap.{len}
 use Rattle.point_sets.specs.Changes.{Changes}
 use Rattle.held_index.specs.Holdings.{Holding}
 use Rattle.join_eval.specs.Plans.{structure_of}
-use Rattle.join_meaning.specs.Joins.{JoinOn}
+use Rattle.operator_meaning.specs.joins.Joins.{JoinOn}
 use Rattle.pair_ops.specs.Reach.{NamedValue, met_keys, named_values, pairs_with}
 use Rattle.inner_joins.specs.Noted.{held_for, news_of}
 use Rattle.inner_joins.specs.Rules.{main_number}

@@ -12,7 +12,7 @@ use Rattle.point_sets.specs.Changes.{Changes}
 use Rattle.held_index.specs.Holdings.{Holding}
 use Rattle.held_index.specs.Reach.{changes_in}
 use Rattle.join_eval.specs.Plans.{structure_of}
-use Rattle.join_meaning.specs.Joins.{JoinOn}
+use Rattle.operator_meaning.specs.joins.Joins.{JoinOn}
 use Rattle.pair_ops.specs.Reach.{NamedValue, agree, named_values, pairs_with}
 use Rattle.inner_joins.specs.Noted.{news_of}
 use Rattle.inner_joins.specs.Reach.{inner_reach, pairs_of, points_for, steps_for}

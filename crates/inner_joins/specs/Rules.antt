@@ -6,12 +6,12 @@ use Rattle.vtl_syntax.specs.declared.words.JoinFunction.TheVariants.{Inner}
 use Rattle.data_set_trees.specs.Components.{identifiers}
 use Rattle.data_set_trees.specs.declared.tree.DataSetOperator.{DataSetOperator}
 use Rattle.data_set_trees.specs.declared.tree.DataSetOperator.TheVariants.{Join}
-use Rattle.checked_trees.specs.Operators.{Operator}
+use Rattle.data_set_trees.specs.checked.Operators.{Operator}
 use Rattle.held_index.specs.Wants.{in_parts, whole}
 use Rattle.held_index.specs.declared.want.Want.{Want}
 use Rattle.join_eval.specs.Plans.{structure_of}
-use Rattle.join_meaning.specs.Joins.{JoinOn, join_on, is_whole, join_key, numbers_among}
-use Rattle.join_meaning.specs.Typed.{IsTypedJoinOn}
+use Rattle.operator_meaning.specs.joins.Joins.{JoinOn, join_on, is_whole, join_key, numbers_among}
+use Rattle.operator_meaning.specs.joins.Typed.{IsTypedJoinOn}
 
 -- an inner join
 abbrev pub IsInner : DataSetOperator → Type 0

@@ -1,12 +1,12 @@
 // What follows from the definitions, for those who build on them.
 ghost use Rattle.std.specs.Prelude.{◌≡◌, ◌<◌, List, length, map, slice_index_or, All};
 ghost use Rattle.vtl_values.specs.declared.structure.Component.{Component};
-ghost use Rattle.checked_trees.specs.Operators.{Operator, IsTyped};
+ghost use Rattle.data_set_trees.specs.checked.Operators.{Operator, IsTyped};
 ghost use Rattle.point_sets.specs.Changes.{Changes};
 ghost use Rattle.point_sets.specs.DataSets.{DataSet};
 ghost use Rattle.held_index.specs.Holdings.{holding_of, FitsStructure, Holding};
 ghost use Rattle.held_index.specs.Reach.{changes_in};
-ghost use Rattle.join_meaning.specs.Joins.{JoinOn};
+ghost use Rattle.operator_meaning.specs.joins.Joins.{JoinOn};
 ghost use Rattle.pair_ops.specs.Reach.{matching_reach};
 ghost use Rattle.inner_joins.specs.Reach.{inner_reach};
 ghost use Rattle.inner_joins.specs.Rules.{main_number, wanted_of, wants_on, IsInner, IsInnerOn};

@@ -11,7 +11,7 @@ ghost use Rattle.point_sets.specs.DataSets.{entry_of, DataSet};
 ghost use Rattle.held_index.specs.Holdings.{IsPlain};
 ghost use Rattle.held_index.specs.Rules.{after_news};
 ghost use Rattle.join_eval.specs.Plans.{own_key};
-ghost use Rattle.join_meaning.specs.Joins.{points_at};
+ghost use Rattle.operator_meaning.specs.joins.Joins.{points_at};
 ghost use Rattle.pair_ops.specs.Noted.{part_steps, walk_steps};
 ghost use Rattle.inner_joins.specs.Noted.{all_keys, held_for, keys_met, keys_of, news_of, noted_key, AreBehind, Has, IsMet, IsOfChange, Notes};
 ghost use Rattle.inner_joins.specs.Reach.{inner_reach, steps_for};

@@ -1,8 +1,8 @@
 // How the points of an inner join meet.
 ghost use Rattle.std.specs.Prelude.{◌≡◌, ◌<◌, ◌-◌, length, IfOk};
 ghost use Rattle.vtl_syntax.specs.declared.words.JoinFunction.TheVariants.{Inner};
-ghost use Rattle.join_meaning.specs.Joins.{join_on};
-ghost use Rattle.join_meaning.specs.Typed.{IsTypedJoinOn};
+ghost use Rattle.operator_meaning.specs.joins.Joins.{join_on};
+ghost use Rattle.operator_meaning.specs.joins.Typed.{IsTypedJoinOn};
 ghost use Rattle.inner_joins.specs.Rules as rules;
 ghost use Rattle.inner_joins.specs.Rules.{main_number, IsInnerOn};
 
@@ -21,7 +21,7 @@ pub struct InnerPlan {
 }
 
 impl Model for InnerPlan {
-    ghost use Rattle.join_meaning.specs.Joins.{JoinOn};
+    ghost use Rattle.operator_meaning.specs.joins.Joins.{JoinOn};
     ghost use Rattle.join_eval.specs.Plans.{join_coded};
     ghost use Rattle.inner_joins.specs.Rules.{IsInnerPlan};
 

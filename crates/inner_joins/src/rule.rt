@@ -25,7 +25,7 @@ pub struct InnerJoinRule {
 }
 
 impl Model for InnerJoinRule {
-    ghost use Rattle.checked_trees.specs.Operators.{an_operator, operator_coded, Operator};
+    ghost use Rattle.data_set_trees.specs.checked.Operators.{an_operator, operator_coded, Operator};
     ghost use Rattle.inner_joins.specs.Rules.{IsRule};
 
     ghost Value = { Operator };
@@ -38,7 +38,7 @@ impl Model for InnerJoinRule {
 }
 
 impl InnerJoinRule {
-    ghost use Rattle.checked_trees.specs.Operators.{an_operator, IsTyped};
+    ghost use Rattle.data_set_trees.specs.checked.Operators.{an_operator, IsTyped};
     ghost use Rattle.inner_joins.specs.Rules.{join_in, IsInner, IsInnerOn};
 
     /// The rule of a node's operator, which is an inner join.

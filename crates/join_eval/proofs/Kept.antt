@@ -7,7 +7,7 @@ use Rattle.vtl_values.specs.declared.structure.Component.{Component}
 use Rattle.vtl_syntax.specs.declared.words.JoinFunction.{JoinFunction}
 use Rattle.vtl_syntax.specs.declared.words.JoinFunction.TheVariants.{Inner, Left, Full, Cross}
 use Rattle.data_set_trees.specs.Components.{identifiers}
-use Rattle.join_meaning.specs.Joins.{JoinOn, runs, places_of, own_places, join_on}
+use Rattle.operator_meaning.specs.joins.Joins.{JoinOn, runs, places_of, own_places, join_on}
 
 length-runs : (n : ℕ) (ss : List (List Component)) → length (runs n ss) ≡ length ss
 length-runs n [] = refl

@@ -17,13 +17,13 @@ use Rattle.point_sets.specs.declared.point.Point.{Point}
 use Rattle.structured_sets.specs.Fitting.{others}
 use Rattle.viral_attributes.specs.Combination.{rank, combined}
 use Rattle.viral_attributes.proofs.Highest.{combined-fold}
-use Rattle.clause_trees.specs.Frames.{has_role}
+use Rattle.data_set_trees.specs.clauses.Frames.{has_role}
 use Rattle.data_set_trees.specs.Components.{has_name, virals}
 use Rattle.data_set_trees.specs.Joins.{gathered}
-use Rattle.pair_meaning.specs.Pairs.{codes_of, viral_value}
+use Rattle.operator_meaning.specs.pairs.Pairs.{codes_of, viral_value}
 use Rattle.pair_eval.specs.Plans.{viral_called}
 use Rattle.pair_eval.proofs.Places.{value-placed}
-use Rattle.join_meaning.specs.Joins.{measure_values, values_called, joined_values}
+use Rattle.operator_meaning.specs.joins.Joins.{measure_values, values_called, joined_values}
 use Rattle.join_eval.specs.Made.{measures_there, value_there, higher, combined_value, AreAsMany, values_by}
 use Rattle.join_eval.specs.Plans.{side_of, viral_places_of, viral_places}
 use Rattle.join_eval.specs.declared.sides.Side.{Side}

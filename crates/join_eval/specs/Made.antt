@@ -4,7 +4,7 @@ use Rattle.vtl_values.specs.declared.value.Value.{Value}
 use Rattle.vtl_values.specs.declared.value.Value.TheVariants.{Null}
 use Rattle.viral_attributes.specs.Combination.{rank, combined}
 use Rattle.clause_meaning.specs.Clauses.{values_at}
-use Rattle.pair_meaning.specs.Pairs.{codes_of}
+use Rattle.operator_meaning.specs.pairs.Pairs.{codes_of}
 use Rattle.pair_eval.specs.Plans.{value_in}
 use Rattle.join_eval.specs.declared.sides.Side.{Side}
 use Rattle.join_eval.specs.declared.virals.ViralPlaces.{ViralPlaces}

@@ -8,13 +8,13 @@ use Rattle.vtl_values.specs.contracts.structure.Structure as structure
 use Rattle.vtl_syntax.specs.declared.words.JoinFunction.{JoinFunction}
 use Rattle.vtl_syntax.specs.contracts.words.JoinFunction as function
 use Rattle.structured_sets.specs.Fitting.{others}
-use Rattle.clause_trees.specs.Frames.{numbers_of}
+use Rattle.data_set_trees.specs.clauses.Frames.{numbers_of}
 use Rattle.clause_meaning.specs.Clauses.{values_at}
 use Rattle.data_set_trees.specs.Components.{identifiers, virals}
 use Rattle.data_set_trees.specs.Joins.{includes_all, gathered}
 use Rattle.pair_eval.specs.Plans.{viral_called}
-use Rattle.join_meaning.specs.Joins.{JoinOn, join_on, key_components, numbers_among, own_places}
-use Rattle.join_meaning.specs.Typed.{IsTypedJoinOn}
+use Rattle.operator_meaning.specs.joins.Joins.{JoinOn, join_on, key_components, numbers_among, own_places}
+use Rattle.operator_meaning.specs.joins.Typed.{IsTypedJoinOn}
 use Rattle.join_eval.specs.declared.sides.Side.{Side}
 use Rattle.join_eval.specs.declared.virals.ViralPlaces.{ViralPlaces}
 

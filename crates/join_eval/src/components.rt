@@ -4,11 +4,11 @@ ghost use Rattle.std.specs.List.{list_any, list_all};
 ghost use Rattle.vtl_values.specs.declared.kind.Role.TheVariants.{Identifier, Measure};
 ghost use Rattle.structured_sets.specs.Fitting as fitting;
 ghost use Rattle.scalar_trees.specs.WellTyped as kinds;
-ghost use Rattle.clause_trees.specs.Frames as frames;
+ghost use Rattle.data_set_trees.specs.clauses.Frames as frames;
 ghost use Rattle.data_set_trees.specs.Components as meant;
 ghost use Rattle.data_set_trees.specs.Joins as joins;
 ghost use Rattle.pair_eval.specs.Plans as pairs;
-ghost use Rattle.join_meaning.specs.Joins as specs;
+ghost use Rattle.operator_meaning.specs.joins.Joins as specs;
 
 use sqlite_items::Items;
 use std::alloc::{AllocError, Global};

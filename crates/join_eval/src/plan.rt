@@ -3,9 +3,9 @@ ghost use Rattle.std.specs.Prelude.{◌≡◌, ◌<◌, length, map, IfOk};
 ghost use Rattle.point_sets.specs.DataSets.{HasKey};
 ghost use Rattle.point_sets.specs.Changes.{values_of};
 ghost use Rattle.data_set_trees.specs.Components.{identifiers as identifiers_of};
-ghost use Rattle.join_meaning.specs.Joins as meant;
-ghost use Rattle.join_meaning.specs.Joins.{join_on, joined_point};
-ghost use Rattle.join_meaning.specs.Typed.{IsTypedJoinOn};
+ghost use Rattle.operator_meaning.specs.joins.Joins as meant;
+ghost use Rattle.operator_meaning.specs.joins.Joins.{join_on, joined_point};
+ghost use Rattle.operator_meaning.specs.joins.Typed.{IsTypedJoinOn};
 ghost use Rattle.join_eval.specs.Plans.{structure_of, own_key};
 
 use crate::components::{identifiers, join_identifiers, numbers_among};
@@ -35,7 +35,7 @@ pub struct JoinPlan {
 }
 
 impl Model for JoinPlan {
-    ghost use Rattle.join_meaning.specs.Joins.{JoinOn, join_on};
+    ghost use Rattle.operator_meaning.specs.joins.Joins.{JoinOn, join_on};
     ghost use Rattle.join_eval.specs.Plans.{join_coded, IsPlan};
 
     ghost Value = { JoinOn };

@@ -5,7 +5,7 @@ ghost use Rattle.std.specs.Option.{option_copied};
 ghost use Rattle.vtl_values.specs.declared.value.Value.TheVariants.{Null};
 ghost use Rattle.point_sets.specs.Changes.{values_of};
 ghost use Rattle.clause_meaning.specs.Clauses.{values_at};
-ghost use Rattle.join_meaning.specs.Joins as meant;
+ghost use Rattle.operator_meaning.specs.joins.Joins as meant;
 ghost use Rattle.join_eval.specs.Made as made;
 
 use crate::sides::Side;

@@ -3,7 +3,7 @@ ghost use Rattle.std.specs.Prelude.{◌≡◌, ◌≤◌, ◌-◌, map, IfOk};
 ghost use Rattle.std.specs.List.{range_with_len};
 ghost use Rattle.data_set_trees.specs.Components as components;
 ghost use Rattle.data_set_trees.specs.Joins.{join_identifiers};
-ghost use Rattle.join_meaning.specs.Joins as meant;
+ghost use Rattle.operator_meaning.specs.joins.Joins as meant;
 ghost use Rattle.join_eval.specs.Plans as plans;
 
 use crate::components::{identifiers, includes_all, measure_numbers, numbers_among, others};

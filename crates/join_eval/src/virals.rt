@@ -6,7 +6,7 @@ ghost use Rattle.vtl_values.specs.declared.value.Value.TheVariants.{Null, Text};
 ghost use Rattle.point_sets.specs.Changes.{values_of};
 ghost use Rattle.structured_sets.specs.Fitting as fitting;
 ghost use Rattle.viral_attributes.specs.Combination as combination;
-ghost use Rattle.pair_meaning.specs.Pairs.{codes_of};
+ghost use Rattle.operator_meaning.specs.pairs.Pairs.{codes_of};
 ghost use Rattle.join_eval.specs.Plans as plans;
 ghost use Rattle.join_eval.specs.Made as made;
 

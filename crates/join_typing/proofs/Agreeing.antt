@@ -7,9 +7,9 @@ use Rattle.vtl_values.specs.declared.place.Place.{Place}
 use Rattle.vtl_values.specs.declared.structure.Component.{Component}
 use Rattle.vtl_syntax.specs.declared.words.JoinFunction.{JoinFunction}
 use Rattle.vtl_syntax.specs.declared.words.JoinFunction.TheVariants as function
-use Rattle.typing_rules.specs.declared.stop.Fault.TheVariants.{WrongStructure, NameTwice, TooManyComponents}
-use Rattle.clause_trees.specs.declared.frame.Frame.{Frame}
-use Rattle.clause_trees.specs.Clauses as clauses
+use Rattle.scalar_trees.specs.declared.typing.stop.Fault.TheVariants.{WrongStructure, NameTwice, TooManyComponents}
+use Rattle.data_set_trees.specs.declared.clauses.frame.Frame.{Frame}
+use Rattle.data_set_trees.specs.clauses.Clauses as clauses
 use Rattle.data_set_trees.specs.Components.{identifiers, include}
 use Rattle.data_set_trees.specs.Joins as meant
 use Rattle.data_set_parts.proofs.Follows.{first_met}

@@ -19,25 +19,25 @@ use Rattle.vtl_syntax.specs.declared.expr.Groups.{Groups}
 use Rattle.vtl_syntax.specs.declared.expr.Item.{Item}
 use Rattle.vtl_syntax.specs.declared.expr.JoinOperand.{JoinOperand}
 use Rattle.vtl_syntax.specs.declared.expr.SubstrRange.{SubstrRange}
-use Rattle.typing_rules.specs.declared.scope.Basis.TheVariants.{Point}
-use Rattle.typing_rules.specs.declared.stop.Fault.TheVariants as fault
-use Rattle.typing_rules.specs.Scalars.{typed, wanted, place_of}
-use Rattle.typing_rules.specs.Steps.{◌>>=◌}
-use Rattle.typing_rules.proofs.Sound.{left, right}
-use Rattle.clause_trees.specs.declared.clause.CheckedClause.{CheckedClause}
-use Rattle.clause_trees.specs.declared.clause.CheckedClause.TheVariants as clause
-use Rattle.clause_trees.specs.declared.clause.CheckedItem.{CheckedItem}
-use Rattle.clause_trees.specs.declared.clause.CheckedRename.{CheckedRename}
-use Rattle.clause_trees.specs.declared.clause.Target.{Target}
-use Rattle.clause_trees.specs.declared.clause.Target.TheVariants.{Old, New}
-use Rattle.clause_trees.specs.declared.frame.Frame.{Frame}
-use Rattle.clause_trees.specs.Frames.{scope_of_frame, has_role, numbers_of, kept, by_role, changed_at}
-use Rattle.clause_trees.specs.After.{made, put, with_item, calculated, with_rename, renamed, staying, measure_kind, unpivoted, is_kept, is_left, after}
-use Rattle.clause_trees.specs.Clauses.{MOST_COMPONENTS, filter_typed, calc_typed, may_calculate, targets_differ, has_room, are_known, may_keep, may_drop, numbers_named, are_known_renames, renames_checked, renames_differ, are_known_items, subs_checked, are_comparable, are_identifiers, are_present, are_alike, has_measure, names_differ}
-use Rattle.clause_trees.proofs.Changes.{All-changed, AllPairs-changed, All-added}
-use Rattle.clause_trees.proofs.Made.{IsPlain, items_plain, met}
-use Rattle.clause_trees.proofs.Ordered.{part}
-use Rattle.clause_trees.proofs.Parts.{picked_are, left_from, left_all, left_pairs}
+use Rattle.scalar_trees.specs.declared.typing.scope.Basis.TheVariants.{Point}
+use Rattle.scalar_trees.specs.declared.typing.stop.Fault.TheVariants as fault
+use Rattle.scalar_trees.specs.typing.Scalars.{typed, wanted, place_of}
+use Rattle.scalar_trees.specs.typing.Steps.{◌>>=◌}
+use Rattle.scalar_trees.proofs.typing.Sound.{left, right}
+use Rattle.data_set_trees.specs.declared.clauses.clause.CheckedClause.{CheckedClause}
+use Rattle.data_set_trees.specs.declared.clauses.clause.CheckedClause.TheVariants as clause
+use Rattle.data_set_trees.specs.declared.clauses.clause.CheckedItem.{CheckedItem}
+use Rattle.data_set_trees.specs.declared.clauses.clause.CheckedRename.{CheckedRename}
+use Rattle.data_set_trees.specs.declared.clauses.clause.Target.{Target}
+use Rattle.data_set_trees.specs.declared.clauses.clause.Target.TheVariants.{Old, New}
+use Rattle.data_set_trees.specs.declared.clauses.frame.Frame.{Frame}
+use Rattle.data_set_trees.specs.clauses.Frames.{scope_of_frame, has_role, numbers_of, kept, by_role, changed_at}
+use Rattle.data_set_trees.specs.clauses.After.{made, put, with_item, calculated, with_rename, renamed, staying, measure_kind, unpivoted, is_kept, is_left, after}
+use Rattle.data_set_trees.specs.clauses.Clauses.{MOST_COMPONENTS, filter_typed, calc_typed, may_calculate, targets_differ, has_room, are_known, may_keep, may_drop, numbers_named, are_known_renames, renames_checked, renames_differ, are_known_items, subs_checked, are_comparable, are_identifiers, are_present, are_alike, has_measure, names_differ}
+use Rattle.data_set_trees.proofs.clauses.Changes.{All-changed, AllPairs-changed, All-added}
+use Rattle.data_set_trees.proofs.clauses.Made.{IsPlain, items_plain, met}
+use Rattle.data_set_trees.proofs.clauses.Ordered.{part}
+use Rattle.data_set_trees.proofs.clauses.Parts.{picked_are, left_from, left_all, left_pairs}
 use Rattle.expression_rules.specs.JoinClauses.{Placed, inside}
 use Rattle.expression_rules.specs.OnClauses.{items_checked, clause_step, clause_checked}
 use Rattle.data_set_parts.specs.Joins.{IsSound, IsOf}

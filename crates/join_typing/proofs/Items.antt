@@ -3,14 +3,14 @@ use Rattle.std.proofs.Common.{◌≡◌, List, [], ◌∷◌, Result, Ok, Err, s
 use Rattle.std.proofs.lemmas.List.Elements.{All-nil, All-cons}
 use Rattle.std.specs.List.{All}
 use Rattle.vtl_syntax.specs.declared.expr.Item.{Item, out-Item}
-use Rattle.typing_rules.specs.declared.scope.Basis.TheVariants.{Point}
-use Rattle.typing_rules.specs.declared.stop.Refusal.{Refusal}
-use Rattle.typing_rules.specs.Scalars.{typed}
-use Rattle.typing_rules.specs.Steps.{◌>>=◌}
-use Rattle.clause_trees.specs.declared.clause.CheckedItem.{CheckedItem}
-use Rattle.clause_trees.specs.declared.frame.Frame.{Frame}
-use Rattle.clause_trees.specs.Frames.{scope_of_frame}
-use Rattle.clause_trees.specs.Clauses.{IsItemOf, item_typed}
+use Rattle.scalar_trees.specs.declared.typing.scope.Basis.TheVariants.{Point}
+use Rattle.scalar_trees.specs.declared.typing.stop.Refusal.{Refusal}
+use Rattle.scalar_trees.specs.typing.Scalars.{typed}
+use Rattle.scalar_trees.specs.typing.Steps.{◌>>=◌}
+use Rattle.data_set_trees.specs.declared.clauses.clause.CheckedItem.{CheckedItem}
+use Rattle.data_set_trees.specs.declared.clauses.frame.Frame.{Frame}
+use Rattle.data_set_trees.specs.clauses.Frames.{scope_of_frame}
+use Rattle.data_set_trees.specs.clauses.Clauses.{IsItemOf, item_typed}
 use Rattle.expression_rules.specs.OnClauses.{item_checked, items_checked}
 use Rattle.data_set_parts.proofs.Follows.{gave}
 

@@ -10,10 +10,10 @@ use Rattle.vtl_values.specs.declared.kind.Role.TheVariants.{Viral}
 use Rattle.vtl_values.specs.declared.structure.Codes.TheVariants.{Any}
 use Rattle.vtl_values.specs.declared.structure.Component.{Component}
 use Rattle.vtl_values.specs.Structures.{IsStructure}
-use Rattle.clause_trees.specs.declared.frame.Frame.{Frame}
-use Rattle.clause_trees.specs.Frames.{has_role}
-use Rattle.clause_trees.specs.After.{after}
-use Rattle.clause_trees.proofs.Parts.{pairs_head, pairs_tail}
+use Rattle.data_set_trees.specs.declared.clauses.frame.Frame.{Frame}
+use Rattle.data_set_trees.specs.clauses.Frames.{has_role}
+use Rattle.data_set_trees.specs.clauses.After.{after}
+use Rattle.data_set_trees.proofs.clauses.Parts.{pairs_head, pairs_tail}
 use Rattle.data_set_trees.specs.Components.{unlisted, names_differ}
 use Rattle.data_set_trees.specs.Joins.{numbered}
 use Rattle.expression_rules.specs.JoinClauses.{Placed}

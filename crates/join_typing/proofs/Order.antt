@@ -7,10 +7,10 @@ use Rattle.vtl_values.specs.declared.kind.Role.{Role}
 use Rattle.vtl_values.specs.declared.kind.Role.TheVariants.{Identifier, Measure, Attribute, Viral}
 use Rattle.vtl_values.specs.declared.structure.Component.{Component}
 use Rattle.vtl_values.specs.Structures.{place_of}
-use Rattle.clause_trees.specs.declared.frame.Frame.{Frame}
-use Rattle.clause_trees.specs.Frames.{is_role, has_role, numbers_of, numbers_by_role, by_role}
-use Rattle.clause_trees.proofs.Parts.{left_from, picked_are, left_all}
-use Rattle.clause_trees.proofs.Ordered.{part, pairs_append, have_role}
+use Rattle.data_set_trees.specs.declared.clauses.frame.Frame.{Frame}
+use Rattle.data_set_trees.specs.clauses.Frames.{is_role, has_role, numbers_of, numbers_by_role, by_role}
+use Rattle.data_set_trees.proofs.clauses.Parts.{left_from, picked_are, left_all}
+use Rattle.data_set_trees.proofs.clauses.Ordered.{part, pairs_append, have_role}
 use Rattle.data_set_parts.proofs.Fits.{all_across}
 
 abbrev pub InOrder : Component → Component → Type 0

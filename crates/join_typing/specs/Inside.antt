@@ -3,9 +3,9 @@ use Rattle.std.specs.Prelude.{◌≡◌, ◌≤◌, List, [], ◌∷◌, length,
 use Rattle.vtl_values.specs.declared.structure.Component.{Component}
 use Rattle.vtl_values.specs.Structures.{place_of}
 use Rattle.vtl_syntax.specs.declared.expr.Clause.{Clause}
-use Rattle.clause_trees.specs.declared.frame.Frame.{Frame}
-use Rattle.clause_trees.specs.After.{after}
-use Rattle.clause_trees.specs.Clauses.{MOST_COMPONENTS}
+use Rattle.data_set_trees.specs.declared.clauses.frame.Frame.{Frame}
+use Rattle.data_set_trees.specs.clauses.After.{after}
+use Rattle.data_set_trees.specs.clauses.Clauses.{MOST_COMPONENTS}
 use Rattle.expression_rules.specs.JoinClauses.{Placed, inside}
 use Rattle.data_set_parts.specs.Joins.{IsSound}
 

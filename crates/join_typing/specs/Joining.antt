@@ -8,13 +8,13 @@ use Rattle.vtl_values.specs.declared.structure.Component.{Component}
 use Rattle.vtl_syntax.specs.declared.expr.Clause.{Clause}
 use Rattle.vtl_syntax.specs.declared.words.JoinFunction.{JoinFunction}
 use Rattle.vtl_syntax.specs.declared.words.JoinFunction.TheVariants as function
-use Rattle.typing_rules.specs.declared.scope.ScopeName.{ScopeName}
-use Rattle.typing_rules.specs.declared.stop.Fault.TheVariants.{WrongStructure, NameTwice, TooManyComponents}
-use Rattle.typing_rules.specs.declared.stop.Refusal.{Refusal}
-use Rattle.typing_rules.specs.Steps.{◌>>=◌, demanded, or_refused}
-use Rattle.clause_trees.specs.declared.frame.Frame.{Frame}
-use Rattle.clause_trees.specs.Frames.{has_role}
-use Rattle.clause_trees.specs.Clauses as clauses
+use Rattle.scalar_trees.specs.declared.typing.scope.ScopeName.{ScopeName}
+use Rattle.scalar_trees.specs.declared.typing.stop.Fault.TheVariants.{WrongStructure, NameTwice, TooManyComponents}
+use Rattle.scalar_trees.specs.declared.typing.stop.Refusal.{Refusal}
+use Rattle.scalar_trees.specs.typing.Steps.{◌>>=◌, demanded, or_refused}
+use Rattle.data_set_trees.specs.declared.clauses.frame.Frame.{Frame}
+use Rattle.data_set_trees.specs.clauses.Frames.{has_role}
+use Rattle.data_set_trees.specs.clauses.Clauses as clauses
 use Rattle.data_set_trees.specs.declared.operand.DataSet.{DataSet}
 use Rattle.data_set_trees.specs.declared.operand.Operand.{Operand}
 use Rattle.data_set_trees.specs.declared.operand.Operand.TheVariants as operand

@@ -2,8 +2,8 @@
 ghost use Rattle.std.specs.Prelude.{◌≡◌, ◌&&◌, map, Ok, IfOk, IfErr};
 ghost use Rattle.std.specs.List.{list_any};
 ghost use Rattle.vtl_values.specs.Texts.{same_text};
-ghost use Rattle.typing_rules.specs.Steps.{Refuses};
-ghost use Rattle.clause_trees.specs.Clauses as clauses;
+ghost use Rattle.scalar_trees.specs.typing.Steps.{Refuses};
+ghost use Rattle.data_set_trees.specs.clauses.Clauses as clauses;
 ghost use Rattle.data_set_trees.specs.Joins as meant;
 ghost use Rattle.join_typing.specs.Inside.{FitInside};
 ghost use Rattle.join_typing.specs.Joining as own;
@@ -12,13 +12,13 @@ use crate::agreement::may_join;
 use crate::frames::{join_frame, structures_of};
 use crate::joining::Joining;
 use crate::operands::{Aliased, all_aliased, all_sets};
-use clause_trees::Frame;
 use clause_typing::names_differ;
 use data_set_parts::demands::demands;
 use data_set_trees::Operand;
+use data_set_trees::clauses::Frame;
+use scalar_trees::typing::{Fault, TypeStop};
 use sqlite_items::Items;
 use std::alloc::{AllocError, Global};
-use typing_rules::{Fault, TypeStop};
 use vtl_syntax::words::JoinFunction;
 use vtl_values::{Place, Word};
 

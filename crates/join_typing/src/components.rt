@@ -2,8 +2,8 @@
 ghost use Rattle.std.specs.Prelude.{◌≡◌, ◌≤◌, ◌++◌, [], map, filter, flat_map, length, IfOk};
 ghost use Rattle.std.specs.List.{All};
 ghost use Rattle.vtl_values.specs.declared.kind.Role.TheVariants as role;
-ghost use Rattle.clause_trees.specs.Clauses.{MOST_COMPONENTS};
-ghost use Rattle.clause_trees.specs.Frames.{has_role};
+ghost use Rattle.data_set_trees.specs.clauses.Clauses.{MOST_COMPONENTS};
+ghost use Rattle.data_set_trees.specs.clauses.Frames.{has_role};
 ghost use Rattle.data_set_trees.specs.Components as parts;
 ghost use Rattle.data_set_trees.specs.Joins as meant;
 ghost use Rattle.data_set_parts.specs.Joins.{IsOf};

@@ -1,6 +1,6 @@
 // A join with the clauses inside.
 ghost use Rattle.std.specs.Prelude.{◌≡◌, map, true, Ok, IfOk, IfErr};
-ghost use Rattle.typing_rules.specs.Steps.{Refuses};
+ghost use Rattle.scalar_trees.specs.typing.Steps.{Refuses};
 ghost use Rattle.data_set_trees.specs.Components as parts;
 ghost use Rattle.expression_rules.specs.JoinClauses as meant;
 ghost use Rattle.join_typing.specs.Inside.{EachFits};
@@ -8,13 +8,13 @@ ghost use Rattle.join_typing.specs.Joining as own;
 
 use crate::inside::{structure_before, with_clauses};
 use crate::joining::{Joining, Placed};
-use clause_trees::Frame;
 use data_set_parts::components::names_differ;
 use data_set_parts::nodes::applied;
+use data_set_trees::clauses::Frame;
 use data_set_trees::{DataSet, DataSetOperator, Operand};
+use scalar_trees::typing::{Fault, TypeStop, demand};
 use sqlite_items::Items;
 use std::alloc::{AllocError, Global};
-use typing_rules::{Fault, TypeStop, demand};
 
 /// The join with its clauses, whose names differ at the end. Or want of memory.
 fn joined(alloc: Global, join: Joining, clauses: Items<Placed>) -> Result<DataSet, AllocError>

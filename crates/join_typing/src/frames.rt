@@ -1,6 +1,6 @@
 // The frame of a join.
 ghost use Rattle.std.specs.Prelude.{◌≡◌, ◌≤◌, ◌++◌, map, length, slice_get, IfOk, OnOk};
-ghost use Rattle.clause_trees.specs.Clauses.{MOST_COMPONENTS};
+ghost use Rattle.data_set_trees.specs.clauses.Clauses.{MOST_COMPONENTS};
 ghost use Rattle.data_set_trees.specs.Joins as meant;
 ghost use Rattle.join_typing.specs.Inside.{FitInside};
 ghost use Rattle.join_typing.specs.Joining as own;
@@ -8,12 +8,12 @@ ghost use Rattle.join_typing.specs.Joining as own;
 use crate::components::join_components;
 use crate::operands::Aliased;
 use crate::titles::{Titles, join_titles};
-use clause_trees::Frame;
 use clause_typing::scope_of_frame;
 use data_set_parts::results::listed;
+use data_set_trees::clauses::Frame;
+use scalar_trees::typing::ScopeName;
 use sqlite_items::Items;
 use std::alloc::{AllocError, Global};
-use typing_rules::ScopeName;
 use vtl_syntax::words::JoinFunction;
 use vtl_values::{Component, Structure, Word};
 

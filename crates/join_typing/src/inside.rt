@@ -1,6 +1,6 @@
 // Data sets in a join.
 ghost use Rattle.std.specs.Prelude.{◌≡◌, ◌∷◌, ◌+◌, ◌<◌, ◌≤◌, [], true, map, length, IfOk, MatchOption};
-ghost use Rattle.clause_trees.specs.Clauses.{MOST_COMPONENTS};
+ghost use Rattle.data_set_trees.specs.clauses.Clauses.{MOST_COMPONENTS};
 ghost use Rattle.data_set_trees.specs.Components as parts;
 ghost use Rattle.data_set_trees.specs.Joins as meant;
 ghost use Rattle.expression_rules.specs.JoinClauses as rules;
@@ -10,11 +10,11 @@ ghost use Rattle.join_typing.specs.Inside.{FitInside, EachFits};
 ghost use Rattle.join_typing.specs.Joining as own;
 
 use crate::joining::Placed;
-use clause_trees::Frame;
 use clause_typing::frame_after;
 use data_set_parts::components::unlisted;
 use data_set_parts::nodes::applied;
 use data_set_parts::results::listed_unlisted;
+use data_set_trees::clauses::Frame;
 use data_set_trees::{DataSet, DataSetOperator};
 use sqlite_items::Items;
 use std::alloc::{AllocError, Global};

@@ -1,6 +1,6 @@
 // A join on its way.
-use clause_trees::{CheckedClause, Frame};
 use data_set_trees::DataSet;
+use data_set_trees::clauses::{CheckedClause, Frame};
 use sqlite_items::Items;
 use vtl_syntax::words::JoinFunction;
 use vtl_values::Place;

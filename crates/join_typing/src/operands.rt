@@ -1,17 +1,17 @@
 // The operands of a join under their aliases.
 ghost use Rattle.std.specs.Prelude.{◌≡◌, map, option_map, Ok, IfOk, IfErr};
 ghost use Rattle.std.specs.List.{list_all};
-ghost use Rattle.typing_rules.specs.declared.stop.Fault.TheVariants.{WrongStructure};
-ghost use Rattle.typing_rules.specs.Steps.{Refuses, or_refused};
+ghost use Rattle.scalar_trees.specs.declared.typing.stop.Fault.TheVariants.{WrongStructure};
+ghost use Rattle.scalar_trees.specs.typing.Steps.{Refuses, or_refused};
 ghost use Rattle.data_set_trees.specs.Sets.{all_data_sets};
 ghost use Rattle.data_set_trees.specs.Joins as meant;
 ghost use Rattle.join_typing.specs.Joining as own;
 
 use data_set_parts::nodes::data_sets;
 use data_set_trees::{DataSet, Operand};
+use scalar_trees::typing::{Fault, TypeStop, demand};
 use sqlite_items::Items;
 use std::alloc::{AllocError, Global};
-use typing_rules::{Fault, TypeStop, demand};
 use vtl_values::{Place, Structure, Word};
 
 /// An operand under its alias.

@@ -2,7 +2,7 @@
 ghost use Rattle.std.specs.Prelude.{◌≡◌, ◌∷◌, [], None, Some, map, filter, flat_map, IfOk};
 ghost use Rattle.std.specs.List.{list_any};
 ghost use Rattle.vtl_values.specs.declared.structure.Component.{Component};
-ghost use Rattle.clause_trees.specs.Frames.{has_role};
+ghost use Rattle.data_set_trees.specs.clauses.Frames.{has_role};
 ghost use Rattle.data_set_trees.specs.Components as parts;
 ghost use Rattle.data_set_trees.specs.Joins as meant;
 ghost use Rattle.join_typing.specs.Joining as own;

@@ -47,6 +47,7 @@ range_step (Expr-F.Join f a b others filter calc keep rename place) = (a && (b &
 range_step (Expr-F.Aggregate f a groups place) = a && if_given groups
 range_step (Expr-F.Window f a over place) = a
 range_step (Expr-F.Offset f a offset over place) = a
+range_step (Expr-F.Check a code level imbalance output place) = a && if_given imbalance
 range_step (Expr-F.Time f a place) = a
 range_step (Expr-F.Timeshift a shift place) = a
 range_step (Expr-F.FillTimeSeries a span place) = a

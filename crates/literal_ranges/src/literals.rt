@@ -110,7 +110,11 @@ pub fn see_literals(tree: &Expr)
         Expr::CheckDatapoint { .. } => (),
         Expr::Hierarchy { .. } => (),
         Expr::CheckHierarchy { .. } => (),
-        Expr::Check { .. } => (),
+        Expr::Check {
+            operand,
+            imbalance,
+            ..
+        } => see_with_optional(operand.get(), imbalance),
         Expr::Time { operand, .. } => see_literals(operand.get()),
         Expr::Timeshift { operand, .. } => see_literals(operand.get()),
         Expr::FillTimeSeries { operand, .. } => see_literals(operand.get()),

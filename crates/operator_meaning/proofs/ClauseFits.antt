@@ -6,16 +6,16 @@ use Rattle.vtl_values.specs.declared.kind.Role.TheVariants.{Viral}
 use Rattle.vtl_values.specs.declared.structure.Codes.TheVariants.{Any}
 use Rattle.vtl_values.specs.declared.structure.Component.{Component}
 use Rattle.data_model.specs.Outcomes.{Made, IsOutcome}
-use Rattle.typing_rules.proofs.Sound.{right}
+use Rattle.scalar_trees.proofs.typing.Sound.{right}
 use Rattle.point_sets.specs.DataSets.{DataSet}
 use Rattle.structured_sets.specs.Fitting.{IsSetOf, IsBoundedSetOf}
-use Rattle.clause_trees.specs.declared.clause.CheckedClause.{CheckedClause}
-use Rattle.clause_trees.specs.declared.clause.CheckedClause.TheVariants as clause
-use Rattle.clause_trees.specs.declared.frame.Frame.{Frame}
-use Rattle.clause_trees.specs.After.{after}
-use Rattle.clause_trees.specs.Clauses.{are_comparable, are_identifiers}
-use Rattle.clause_trees.specs.Frames.{frame_of, has_role}
-use Rattle.clause_trees.specs.WellTyped.{is_well_typed}
+use Rattle.data_set_trees.specs.declared.clauses.clause.CheckedClause.{CheckedClause}
+use Rattle.data_set_trees.specs.declared.clauses.clause.CheckedClause.TheVariants as clause
+use Rattle.data_set_trees.specs.declared.clauses.frame.Frame.{Frame}
+use Rattle.data_set_trees.specs.clauses.After.{after}
+use Rattle.data_set_trees.specs.clauses.Clauses.{are_comparable, are_identifiers}
+use Rattle.data_set_trees.specs.clauses.Frames.{frame_of, has_role}
+use Rattle.data_set_trees.specs.clauses.WellTyped.{is_well_typed}
 use Rattle.data_set_trees.specs.Components.{unlisted}
 use Rattle.clause_meaning.specs.Clauses.{clause_meaning, working_of}
 use Rattle.clause_meaning.specs.Ordered.{HasIdentifiersFirst}

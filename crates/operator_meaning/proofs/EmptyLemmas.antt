@@ -14,29 +14,29 @@ use Rattle.vtl_values.specs.Order.{key_cmp}
 use Rattle.vtl_values.specs.Structures.{NamedStructures, IsStructure}
 use Rattle.data_model.specs.Outcomes.{made}
 use Rattle.point_sets.specs.DataSets.{DataSet}
-use Rattle.checked_trees.specs.declared.script.CheckedStatement.{CheckedStatement}
+use Rattle.data_set_trees.specs.declared.checked.script.CheckedStatement.{CheckedStatement}
 use Rattle.data_set_trees.specs.declared.tree.Source.{Source}
 use Rattle.data_set_trees.specs.declared.tree.Source.TheVariants.{Input, Result as ResultOf}
-use Rattle.clause_trees.specs.Frames.{frame_of}
+use Rattle.data_set_trees.specs.clauses.Frames.{frame_of}
 use Rattle.data_set_trees.specs.declared.tree.DataSetOperator.{DataSetOperator}
 use Rattle.data_set_trees.specs.declared.tree.DataSetOperator.TheVariants.{Clause, Pair, Choice, ExistsIn, Set, Join, InJoin, Aggregate, Window, WindowInJoin, Time, Check, Datapoint, Hierarchy}
-use Rattle.checked_trees.specs.Choices.{branches}
-use Rattle.checked_trees.specs.Operators.{an_operator, Operator, IsTyped, TakesOperands}
-use Rattle.checked_trees.specs.Expressions.{Expression, Expressions, Named, Applied, none, more, expression_of}
-use Rattle.checked_trees.specs.Scripts.{Script, IsChecked, FollowOperands, IsOneOf, names_in, names_in_all, names_of, structure_of_source}
-use Rattle.checked_trees.specs.Typing.{HasStructure, HaveStructures}
+use Rattle.data_set_trees.specs.checked.Choices.{branches}
+use Rattle.data_set_trees.specs.checked.Operators.{an_operator, Operator, IsTyped, TakesOperands}
+use Rattle.data_set_trees.specs.checked.Expressions.{Expression, Expressions, Named, Applied, none, more, expression_of}
+use Rattle.data_set_trees.specs.checked.Scripts.{Script, IsChecked, FollowOperands, IsOneOf, names_in, names_in_all, names_of, structure_of_source}
+use Rattle.data_set_trees.specs.checked.Typing.{HasStructure, HaveStructures}
 use Rattle.clause_meaning.proofs.Covered.{meaning-empty}
-use Rattle.aggregate_meaning.proofs.Covered as aggregates
-use Rattle.pair_meaning.specs.Typed.{pair_on}
-use Rattle.pair_meaning.proofs.Paired.{left-empty}
-use Rattle.set_meaning.specs.Sets.{set_on}
-use Rattle.set_meaning.proofs.Covered.{set-empty}
-use Rattle.exists_meaning.specs.Exists.{exists_on}
-use Rattle.exists_meaning.proofs.Told.{first-empty}
-use Rattle.choice_meaning.specs.Choices.{choice_on, choice_meaning}
-use Rattle.choice_meaning.proofs.Chosen.{nothing-chosen}
-use Rattle.join_meaning.specs.Joins.{join_on}
-use Rattle.join_meaning.proofs.Covered.{join-empty}
+use Rattle.operator_meaning.proofs.aggregates.Covered as aggregates
+use Rattle.operator_meaning.specs.pairs.Typed.{pair_on}
+use Rattle.operator_meaning.proofs.pairs.Paired.{left-empty}
+use Rattle.operator_meaning.specs.sets.Sets.{set_on}
+use Rattle.operator_meaning.proofs.sets.Covered.{set-empty}
+use Rattle.operator_meaning.specs.exists.Exists.{exists_on}
+use Rattle.operator_meaning.proofs.exists.Told.{first-empty}
+use Rattle.operator_meaning.specs.choices.Choices.{choice_on, choice_meaning}
+use Rattle.operator_meaning.proofs.choices.Chosen.{nothing-chosen}
+use Rattle.operator_meaning.specs.joins.Joins.{join_on}
+use Rattle.operator_meaning.proofs.joins.Covered.{join-empty}
 use Rattle.operator_meaning.specs.Operators.{meaning_of}
 use Rattle.operator_meaning.specs.Results.{Evaluated, without_points, sets_of, points_of, placed, worked, gathered, result_of, results_of}
 use Rattle.operator_meaning.specs.Scripts.{State, Has, Idle, state_of, set_in, set_named, worked_out, state_at, with_at, states_after, states, first_states, all_states, points_in, first_wrong, or_total, script_wrong}

@@ -14,22 +14,22 @@ use Rattle.vtl_values.specs.Structures.{NamedStructures, IsStructure}
 use Rattle.data_model.specs.Outcomes.{Made, Range, TooMany}
 use Rattle.point_sets.specs.DataSets.{DataSet}
 use Rattle.structured_sets.specs.Fitting.{IsBoundedSetOf}
-use Rattle.checked_trees.specs.declared.script.CheckedStatement.{CheckedStatement}
+use Rattle.data_set_trees.specs.declared.checked.script.CheckedStatement.{CheckedStatement}
 use Rattle.data_set_trees.specs.declared.tree.Source.{Source}
 use Rattle.data_set_trees.specs.declared.tree.Source.TheVariants.{Input, Result as ResultOf}
-use Rattle.clause_trees.specs.declared.clause.CheckedClause.{CheckedClause}
-use Rattle.clause_trees.specs.Frames.{frame_of}
-use Rattle.clause_trees.specs.WellTyped.{is_well_typed}
+use Rattle.data_set_trees.specs.declared.clauses.clause.CheckedClause.{CheckedClause}
+use Rattle.data_set_trees.specs.clauses.Frames.{frame_of}
+use Rattle.data_set_trees.specs.clauses.WellTyped.{is_well_typed}
 use Rattle.data_set_trees.specs.declared.tree.DataSetOperator.{DataSetOperator}
 use Rattle.data_set_trees.specs.declared.tree.DataSetOperator.TheVariants.{Clause, Pair, Choice, ExistsIn, Set, Join, InJoin, Aggregate, Window, WindowInJoin, Time, Check, Datapoint, Hierarchy}
-use Rattle.checked_trees.specs.Operators.{an_operator, Operator, IsTyped, TakesOperands}
-use Rattle.checked_trees.specs.Expressions.{Expression, Expressions, Named, Applied, none, more, expression_of}
-use Rattle.checked_trees.specs.Scripts.{Script, IsChecked, names_in, structure_of_source}
-use Rattle.checked_trees.specs.Typing.{HasStructure, HaveStructures}
-use Rattle.aggregate_trees.specs.declared.aggregate.CheckedAggregate.{CheckedAggregate}
-use Rattle.aggregate_trees.specs.Results.{grouped}
-use Rattle.aggregate_trees.specs.WellTyped as aggregates
-use Rattle.aggregate_meaning.proofs.Fits.{aggregate-fits}
+use Rattle.data_set_trees.specs.checked.Operators.{an_operator, Operator, IsTyped, TakesOperands}
+use Rattle.data_set_trees.specs.checked.Expressions.{Expression, Expressions, Named, Applied, none, more, expression_of}
+use Rattle.data_set_trees.specs.checked.Scripts.{Script, IsChecked, names_in, structure_of_source}
+use Rattle.data_set_trees.specs.checked.Typing.{HasStructure, HaveStructures}
+use Rattle.data_set_trees.specs.declared.aggregates.aggregate.CheckedAggregate.{CheckedAggregate}
+use Rattle.data_set_trees.specs.aggregates.Results.{grouped}
+use Rattle.data_set_trees.specs.aggregates.WellTyped as aggregates
+use Rattle.operator_meaning.proofs.aggregates.Fits.{aggregate-fits}
 use Rattle.data_set_trees.specs.Components.{unlisted}
 use Rattle.operator_meaning.specs.Operators.{SetOutcome, clause_on, aggregate_on, meaning_of, AreOperands}
 use Rattle.operator_meaning.specs.Results.{Wrong, Evaluated, sets_of, points_of, placed, worked, gathered, result_of, results_of}

@@ -12,30 +12,30 @@ use Rattle.data_model.specs.declared.TheConstants.{POINT_LIMIT}
 use Rattle.data_model.specs.Outcomes.{Made, IsOutcome}
 use Rattle.point_sets.specs.DataSets.{DataSet}
 use Rattle.structured_sets.specs.Fitting.{IsSetOf, IsBoundedSetOf}
-use Rattle.clause_trees.specs.declared.clause.CheckedMeasure.{CheckedMeasure}
+use Rattle.data_set_trees.specs.declared.clauses.clause.CheckedMeasure.{CheckedMeasure}
 use Rattle.data_set_trees.specs.declared.tree.Branch.{Branch}
 use Rattle.data_set_trees.specs.declared.tree.ChoiceMeasure.{ChoiceMeasure}
 use Rattle.data_set_trees.specs.declared.tree.SetOperation.{SetOperation}
-use Rattle.checked_trees.specs.Operators.{IsTypedPair, IsTypedExists, IsTypedChoice, IsTypedSet, IsTypedJoin}
+use Rattle.data_set_trees.specs.checked.Operators.{IsTypedPair, IsTypedExists, IsTypedChoice, IsTypedSet, IsTypedJoin}
 use Rattle.clause_meaning.specs.Workings.{Working, outcome_of}
 use Rattle.clause_meaning.proofs.Covered.{IsMeant}
 use Rattle.clause_meaning.proofs.Picked.{AllZip-weaker}
-use Rattle.pair_meaning.specs.Pairs.{pair_working}
-use Rattle.pair_meaning.specs.Typed as pairs
-use Rattle.pair_meaning.specs.Typed.{pair_on}
-use Rattle.pair_meaning.proofs.Fits.{pair-fits}
-use Rattle.pair_meaning.proofs.Paired.{pair-meant}
-use Rattle.set_meaning.specs.Sets.{set_on, set_meaning}
-use Rattle.set_meaning.proofs.Fits.{set-fits}
-use Rattle.exists_meaning.specs.Exists.{exists_on, exists_working}
-use Rattle.exists_meaning.specs.Typed.{IsTypedExistsOn}
-use Rattle.exists_meaning.proofs.Fits.{exists-fits}
-use Rattle.exists_meaning.proofs.Told.{exists-meant}
-use Rattle.choice_meaning.specs.Choices.{choice_on, choice_working, choice_meaning}
-use Rattle.choice_meaning.proofs.Fits.{choice-fits}
-use Rattle.choice_meaning.proofs.Chosen.{choice-meant}
-use Rattle.join_meaning.specs.Joins.{join_on, join_meaning}
-use Rattle.join_meaning.proofs.Fits.{join-fits}
+use Rattle.operator_meaning.specs.pairs.Pairs.{pair_working}
+use Rattle.operator_meaning.specs.pairs.Typed as pairs
+use Rattle.operator_meaning.specs.pairs.Typed.{pair_on}
+use Rattle.operator_meaning.proofs.pairs.Fits.{pair-fits}
+use Rattle.operator_meaning.proofs.pairs.Paired.{pair-meant}
+use Rattle.operator_meaning.specs.sets.Sets.{set_on, set_meaning}
+use Rattle.operator_meaning.proofs.sets.Fits.{set-fits}
+use Rattle.operator_meaning.specs.exists.Exists.{exists_on, exists_working}
+use Rattle.operator_meaning.specs.exists.Typed.{IsTypedExistsOn}
+use Rattle.operator_meaning.proofs.exists.Fits.{exists-fits}
+use Rattle.operator_meaning.proofs.exists.Told.{exists-meant}
+use Rattle.operator_meaning.specs.choices.Choices.{choice_on, choice_working, choice_meaning}
+use Rattle.operator_meaning.proofs.choices.Fits.{choice-fits}
+use Rattle.operator_meaning.proofs.choices.Chosen.{choice-meant}
+use Rattle.operator_meaning.specs.joins.Joins.{join_on, join_meaning}
+use Rattle.operator_meaning.proofs.joins.Fits.{join-fits}
 use Rattle.operator_meaning.specs.Operators.{SetOutcome, pair_on_two, exists_on_two, AreOperands}
 
 -- what is worked out is within the limit of points

@@ -8,7 +8,7 @@ use Rattle.vtl_values.specs.declared.structure.Component.{Component}
 use Rattle.vtl_values.specs.declared.value.Value.{Value}
 use Rattle.point_sets.specs.DataSets.{DataSet}
 use Rattle.structured_sets.specs.Fitting.{is_identifier, identifiers, others, FitsComponent, FitsIdentifier, IsPointOf, IsBoundedSetOf}
-use Rattle.checked_trees.specs.Operators.{unnamed, AreSameButNames}
+use Rattle.data_set_trees.specs.checked.Operators.{unnamed, AreSameButNames}
 
 -- the second takes each value that the first takes, and is an identifier where that is one
 pub record IsOpener (c d : Component) : Type 0 where

@@ -6,11 +6,11 @@ use Rattle.std.proofs.lemmas.Bool.{eq-eqb, ne_eqb}
 use Rattle.std.proofs.lemmas.List.Elements.{All-head, All-tail, All-push, All-weaker, All-contains, All-nil}
 use Rattle.std.specs.FinMap.{empty}
 use Rattle.point_sets.specs.DataSets.{DataSet}
-use Rattle.checked_trees.specs.declared.script.CheckedStatement.{CheckedStatement}
+use Rattle.data_set_trees.specs.declared.checked.script.CheckedStatement.{CheckedStatement}
 use Rattle.data_set_trees.specs.declared.tree.Source.{Source}
 use Rattle.data_set_trees.specs.declared.tree.Source.TheVariants.{Input, Result as ResultOf}
-use Rattle.checked_trees.specs.Expressions.{Expression, Expressions, Named, Applied, none, more, expression_of}
-use Rattle.checked_trees.specs.Scripts.{Script, IsOrder, IsChecked, FollowOperands, IsOneOf, names_in, names_in_all, names_of}
+use Rattle.data_set_trees.specs.checked.Expressions.{Expression, Expressions, Named, Applied, none, more, expression_of}
+use Rattle.data_set_trees.specs.checked.Scripts.{Script, IsOrder, IsChecked, FollowOperands, IsOneOf, names_in, names_in_all, names_of}
 use Rattle.operator_meaning.specs.Results.{gathered, worked, result_of, results_of}
 use Rattle.operator_meaning.specs.Scripts.{State, Idle, state_of, set_in, set_named, worked_out, state_at, with_at, states_after, states}
 use Rattle.operator_meaning.proofs.Items.{All-left, All-right, AllPairs-head, AllPairs-tail, Contains-nothing, Contains-head_or_tail, Contains-from_distinct_below}

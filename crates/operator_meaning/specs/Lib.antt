@@ -1,3 +1,9 @@
 pub mod Operators
 pub mod Results
 pub mod Scripts
+pub mod aggregates
+pub mod pairs
+pub mod sets
+pub mod exists
+pub mod choices
+pub mod joins

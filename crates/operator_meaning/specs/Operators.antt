@@ -9,21 +9,21 @@ use Rattle.vtl_syntax.specs.declared.words.ExistsRows.{ExistsRows}
 use Rattle.data_model.specs.Outcomes.{Outcome, made}
 use Rattle.point_sets.specs.DataSets.{DataSet}
 use Rattle.structured_sets.specs.Fitting.{IsBoundedSetOf}
-use Rattle.clause_trees.specs.declared.clause.CheckedClause.{CheckedClause}
-use Rattle.clause_trees.specs.declared.clause.CheckedMeasure.{CheckedMeasure}
-use Rattle.clause_trees.specs.Frames.{frame_of}
-use Rattle.aggregate_trees.specs.declared.aggregate.CheckedAggregate.{CheckedAggregate}
-use Rattle.aggregate_meaning.specs.Aggregates.{aggregate_meaning}
+use Rattle.data_set_trees.specs.declared.clauses.clause.CheckedClause.{CheckedClause}
+use Rattle.data_set_trees.specs.declared.clauses.clause.CheckedMeasure.{CheckedMeasure}
+use Rattle.data_set_trees.specs.clauses.Frames.{frame_of}
+use Rattle.data_set_trees.specs.declared.aggregates.aggregate.CheckedAggregate.{CheckedAggregate}
+use Rattle.operator_meaning.specs.aggregates.Aggregates.{aggregate_meaning}
 use Rattle.data_set_trees.specs.declared.tree.DataSetOperator.{DataSetOperator}
 use Rattle.data_set_trees.specs.declared.tree.DataSetOperator.TheVariants.{Clause, Pair, Choice, ExistsIn, Set, Join, InJoin, Aggregate, Window, WindowInJoin, Time, Check, Datapoint, Hierarchy}
-use Rattle.checked_trees.specs.Operators.{Operator}
+use Rattle.data_set_trees.specs.checked.Operators.{Operator}
 use Rattle.clause_meaning.specs.Clauses.{clause_meaning}
-use Rattle.pair_meaning.specs.Pairs.{pair_meaning}
-use Rattle.pair_meaning.specs.Typed.{pair_on}
-use Rattle.set_meaning.specs.Sets.{set_on, set_meaning}
-use Rattle.exists_meaning.specs.Exists.{exists_on, exists_meaning}
-use Rattle.choice_meaning.specs.Choices.{choice_on, choice_meaning}
-use Rattle.join_meaning.specs.Joins.{join_on, join_meaning}
+use Rattle.operator_meaning.specs.pairs.Pairs.{pair_meaning}
+use Rattle.operator_meaning.specs.pairs.Typed.{pair_on}
+use Rattle.operator_meaning.specs.sets.Sets.{set_on, set_meaning}
+use Rattle.operator_meaning.specs.exists.Exists.{exists_on, exists_meaning}
+use Rattle.operator_meaning.specs.choices.Choices.{choice_on, choice_meaning}
+use Rattle.operator_meaning.specs.joins.Joins.{join_on, join_meaning}
 
 -- a data set, the least key at which an evaluation is out of range, or that there are too many points
 abbrev pub SetOutcome : Type 0

@@ -5,8 +5,8 @@ use Rattle.vtl_values.specs.declared.place.Place.{Place}
 use Rattle.vtl_values.specs.declared.value.Value.{Value}
 use Rattle.data_model.specs.Outcomes.{Made, Range, TooMany}
 use Rattle.point_sets.specs.DataSets.{DataSet}
-use Rattle.checked_trees.specs.Operators.{Operator}
-use Rattle.checked_trees.specs.Expressions.{Expression, Expressions, Named, Applied, none, more}
+use Rattle.data_set_trees.specs.checked.Operators.{Operator}
+use Rattle.data_set_trees.specs.checked.Expressions.{Expression, Expressions, Named, Applied, none, more}
 use Rattle.operator_meaning.specs.Operators.{SetOutcome, meaning_of}
 
 -- why an expression has no data set: an evaluation of the operator at the place is out of range at the key, or its result has too many points

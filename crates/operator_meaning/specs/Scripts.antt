@@ -3,11 +3,11 @@ use Rattle.std.specs.Prelude.{◌==◌, ℕ, suc, zero, ◌+◌, min, nat_le, Li
 use Rattle.std.specs.List.{list_all}
 use Rattle.std.specs.FinMap.{empty}
 use Rattle.point_sets.specs.DataSets.{DataSet}
-use Rattle.checked_trees.specs.declared.script.CheckedStatement.{CheckedStatement}
+use Rattle.data_set_trees.specs.declared.checked.script.CheckedStatement.{CheckedStatement}
 use Rattle.data_set_trees.specs.declared.tree.Source.{Source}
 use Rattle.data_set_trees.specs.declared.tree.Source.TheVariants.{Input, Result as ResultOf}
-use Rattle.checked_trees.specs.Expressions.{Expression, expression_of}
-use Rattle.checked_trees.specs.Scripts.{Script, names_in}
+use Rattle.data_set_trees.specs.checked.Expressions.{Expression, expression_of}
+use Rattle.data_set_trees.specs.checked.Scripts.{Script, names_in}
 use Rattle.operator_meaning.specs.Results.{Wrong, Evaluated, result_of}
 
 -- what a statement has: a data set, its own fault, or neither, where an operand has no data set

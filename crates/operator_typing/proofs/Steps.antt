@@ -1,9 +1,9 @@
 -- Steps of typing that follow one another.
 use Rattle.std.proofs.Common.{◌≡◌, Result, Ok, Err, IfErr, IsErrAnd, sym, subst, ap}
-use Rattle.typing_rules.specs.declared.stop.Refusal.{Refusal}
-use Rattle.typing_rules.specs.declared.stop.TypeStop.{TypeStop}
-use Rattle.typing_rules.specs.declared.stop.TypeStop.TheVariants.{Refused, Memory}
-use Rattle.typing_rules.specs.Steps.{◌>>=◌, Refuses}
+use Rattle.scalar_trees.specs.declared.typing.stop.Refusal.{Refusal}
+use Rattle.scalar_trees.specs.declared.typing.stop.TypeStop.{TypeStop}
+use Rattle.scalar_trees.specs.declared.typing.stop.TypeStop.TheVariants.{Refused, Memory}
+use Rattle.scalar_trees.specs.typing.Steps.{◌>>=◌, Refuses}
 
 -- a step that gave something, and then the next one
 pub goes_on : {A B : Type 0} (m : Result A Refusal) (next : A → Result B Refusal) (value : A) → m ≡ Ok value → (m >>= next) ≡ next value

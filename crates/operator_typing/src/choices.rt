@@ -1,13 +1,13 @@
 // Operators of which not all operands are evaluated, and functions of two operands.
 ghost use Rattle.std.specs.Prelude.{◌≡◌, Ok, IfOk, IfErr};
-ghost use Rattle.typing_rules.specs.Steps.{Refuses};
-ghost use Rattle.typing_rules.specs.Scalars as meant;
+ghost use Rattle.scalar_trees.specs.typing.Steps.{Refuses};
+ghost use Rattle.scalar_trees.specs.typing.Scalars as meant;
 
 use crate::operands::{agreeing, boxed_wanted};
 use crate::tables::binary_typed;
+use scalar_trees::typing::{TypeStop, Typed};
 use scalar_trees::{BinaryOperator, CheckedExpr, any_kind};
 use std::alloc::Global;
-use typing_rules::{TypeStop, Typed};
 use vtl_syntax::words::BinaryFunction;
 use vtl_values::{Kind, Place};
 

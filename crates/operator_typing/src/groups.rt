@@ -1,11 +1,11 @@
 // Aggregates, which stand on a group of points.
 ghost use Rattle.std.specs.Prelude.{◌≡◌, if◌then◌else◌, Ok, IfOk, IfErr};
-ghost use Rattle.typing_rules.specs.Steps.{Refuses};
-ghost use Rattle.typing_rules.specs.Scalars as meant;
+ghost use Rattle.scalar_trees.specs.typing.Steps.{Refuses};
+ghost use Rattle.scalar_trees.specs.typing.Scalars as meant;
 
 use crate::operands::{joint, or_refused};
+use scalar_trees::typing::{Basis, Fault, TypeStop, Typed};
 use scalar_trees::{CheckedExpr, aggregate_gives, aggregate_takes};
-use typing_rules::{Basis, Fault, TypeStop, Typed};
 use vtl_syntax::words::AggregateFunction;
 use vtl_values::{Kind, Place};
 

@@ -1,13 +1,13 @@
 // Expressions without operands.
 ghost use Rattle.std.specs.Prelude.{◌≡◌, true, Ok, IfOk, IfErr};
 ghost use Rattle.scalar_trees.specs.WellTyped.{in_range};
-ghost use Rattle.typing_rules.specs.Steps.{Refuses};
-ghost use Rattle.typing_rules.specs.Scalars as meant;
+ghost use Rattle.scalar_trees.specs.typing.Steps.{Refuses};
+ghost use Rattle.scalar_trees.specs.typing.Scalars as meant;
 
 use crate::operands::or_refused;
+use scalar_trees::typing::{Fault, Slot, TypeStop, Typed};
 use scalar_trees::{CheckedExpr, literal_kind};
 use std::alloc::AllocError;
-use typing_rules::{Fault, Slot, TypeStop, Typed};
 use vtl_values::{Place, Value};
 
 /// A literal; null has no kind of its own. Or want of memory.

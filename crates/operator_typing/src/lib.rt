@@ -1,7 +1,8 @@
 //! What each operator of scalar expressions makes of operands that are typed, or its fault; and what names stand for.
 //!
-//! It stands on `typing_rules` for the definitions, and on `scalar_trees` for the trees. Each call takes its operands by
-//! value and puts them into the tree that it answers. It answers exactly what the definition says, or want of memory.
+//! It stands on `scalar_trees::typing` for the definitions, and on `scalar_trees` for the trees. Each call takes its
+//! operands by value and puts them into the tree that it answers. It answers exactly what the definition says, or want
+//! of memory.
 #![tactic(auto)]
 
 mod choices;

@@ -1,8 +1,8 @@
 // What a name stands for.
 ghost use Rattle.std.specs.Prelude.{◌≡◌};
-ghost use Rattle.typing_rules.specs.Scopes as meant;
+ghost use Rattle.scalar_trees.specs.typing.Scopes as meant;
 
-use typing_rules::{Basis, Column, Scope, ScopeName, Slot};
+use scalar_trees::typing::{Basis, Column, Scope, ScopeName, Slot};
 use vtl_values::Word;
 
 fn is_named(name: &Word, entry: &ScopeName) -> bool

@@ -1,12 +1,12 @@
 // Rounding to digits.
 ghost use Rattle.std.specs.Prelude.{◌≡◌, Ok, IfOk, IfErr};
-ghost use Rattle.typing_rules.specs.Steps.{Refuses};
-ghost use Rattle.typing_rules.specs.Scalars as meant;
+ghost use Rattle.scalar_trees.specs.typing.Steps.{Refuses};
+ghost use Rattle.scalar_trees.specs.typing.Scalars as meant;
 
 use crate::operands::boxed_wanted;
+use scalar_trees::typing::{Fault, TypeStop, Typed, demand};
 use scalar_trees::{CheckedExpr, digits_fit, round_gives};
 use std::alloc::Global;
-use typing_rules::{Fault, TypeStop, Typed, demand};
 use vtl_syntax::words::RoundFunction;
 use vtl_values::{Integer, Kind, Place};
 

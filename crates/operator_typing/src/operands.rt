@@ -1,13 +1,13 @@
 // Operands where kinds are wanted.
 ghost use Rattle.std.specs.Prelude.{◌≡◌, Ok, IfOk, IfErr};
-ghost use Rattle.typing_rules.specs.Steps as steps;
-ghost use Rattle.typing_rules.specs.Steps.{Refuses};
-ghost use Rattle.typing_rules.specs.Scalars as meant;
+ghost use Rattle.scalar_trees.specs.typing.Steps as steps;
+ghost use Rattle.scalar_trees.specs.typing.Steps.{Refuses};
+ghost use Rattle.scalar_trees.specs.typing.Scalars as meant;
 
+use scalar_trees::typing::{Fault, TypeStop, Typed};
 use scalar_trees::{CheckedExpr, agreed};
 use sqlite_items::Boxed;
 use std::alloc::{AllocError, Global};
-use typing_rules::{Fault, TypeStop, Typed};
 use vtl_values::{Kind, Place};
 
 /// What is there; where nothing is, the fault.

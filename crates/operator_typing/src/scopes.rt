@@ -1,10 +1,10 @@
 // The scope of a data set.
 ghost use Rattle.std.specs.Prelude.{◌≡◌, map, IfOk};
-ghost use Rattle.typing_rules.specs.Scopes as meant;
+ghost use Rattle.scalar_trees.specs.typing.Scopes as meant;
 
+use scalar_trees::typing::{Column, Scope, ScopeName};
 use sqlite_items::Items;
 use std::alloc::{AllocError, Global};
-use typing_rules::{Column, Scope, ScopeName};
 use vtl_values::Component;
 
 fn column_of(component: &Component) -> Column

@@ -4,14 +4,14 @@ ghost use Rattle.std.specs.List.{list_all};
 ghost use Rattle.scalar_trees.specs.Kinds as kinds;
 ghost use Rattle.scalar_trees.specs.WellTyped.{in_range};
 ghost use Rattle.scalar_trees.specs.WellTyped as trees;
-ghost use Rattle.typing_rules.specs.Steps.{Refuses};
-ghost use Rattle.typing_rules.specs.Scalars as meant;
+ghost use Rattle.scalar_trees.specs.typing.Steps.{Refuses};
+ghost use Rattle.scalar_trees.specs.typing.Scalars as meant;
 
 use crate::operands::{boxed_widened, joint};
+use scalar_trees::typing::{Fault, TypeStop, Typed, demand};
 use scalar_trees::{CheckedExpr, any_kind, is_present, literal_kind, widened_value};
 use sqlite_items::Items;
 use std::alloc::{AllocError, Global};
-use typing_rules::{Fault, TypeStop, Typed, demand};
 use vtl_syntax::words::InSign;
 use vtl_values::{Kind, Place, Value};
 

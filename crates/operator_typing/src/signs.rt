@@ -1,6 +1,6 @@
 // Which operator a sign or a word stands for.
 ghost use Rattle.std.specs.Prelude.{◌≡◌};
-ghost use Rattle.typing_rules.specs.Operators.{prefix_operator, unary_operator, or_operator, sum_operator, product_operator, comparison_operator};
+ghost use Rattle.scalar_trees.specs.typing.Operators.{prefix_operator, unary_operator, or_operator, sum_operator, product_operator, comparison_operator};
 
 use scalar_trees::{BinaryOperator, UnaryOperator};
 use vtl_syntax::words::{Comparison, OrSign, Prefix, ProductSign, SumSign, UnaryFunction};

@@ -1,15 +1,15 @@
 // Operators that are rows of the tables of kinds.
 ghost use Rattle.std.specs.Prelude.{◌≡◌, Ok, IfOk, IfErr};
-ghost use Rattle.typing_rules.specs.Steps.{Refuses};
-ghost use Rattle.typing_rules.specs.Scalars as meant;
+ghost use Rattle.scalar_trees.specs.typing.Steps.{Refuses};
+ghost use Rattle.scalar_trees.specs.typing.Scalars as meant;
 
 use crate::operands::{agreeing, boxed_widened, joint};
+use scalar_trees::typing::{TypeStop, Typed};
 use scalar_trees::{
     BinaryOperator, CheckedExpr, UnaryOperator, binary_gives, binary_takes, sort_takes,
     unary_gives, unary_takes,
 };
 use std::alloc::Global;
-use typing_rules::{TypeStop, Typed};
 use vtl_syntax::words::Sort;
 use vtl_values::Place;
 

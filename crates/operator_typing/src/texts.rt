@@ -1,15 +1,15 @@
 // Operators on texts that aren't rows of the tables of kinds.
 ghost use Rattle.std.specs.Prelude.{◌≡◌, Ok, IfOk, IfErr, OnOk};
 ghost use Rattle.scalar_texts.specs.Patterns.{is_pattern};
-ghost use Rattle.typing_rules.specs.declared.stop.Fault.TheVariants.{BadPattern};
-ghost use Rattle.typing_rules.specs.Steps.{Refuses, demanded};
-ghost use Rattle.typing_rules.specs.Scalars as meant;
+ghost use Rattle.scalar_trees.specs.declared.typing.stop.Fault.TheVariants.{BadPattern};
+ghost use Rattle.scalar_trees.specs.typing.Steps.{Refuses, demanded};
+ghost use Rattle.scalar_trees.specs.typing.Scalars as meant;
 
 use crate::operands::{boxed_wanted, wanted_if};
 use scalar_texts::PatternStop;
+use scalar_trees::typing::{Fault, TypeStop, Typed};
 use scalar_trees::{CheckedExpr, SharedPattern};
 use std::alloc::Global;
-use typing_rules::{Fault, TypeStop, Typed};
 use vtl_values::{Kind, Place, Word};
 
 /// The pattern of a text; `BadPattern` where it is none, or want of memory.

@@ -18,10 +18,10 @@ use Rattle.held_index.specs.declared.stop.Stop.{Stop}
 use Rattle.held_index.proofs.Rules.{IsRightAnswer-finished}
 use Rattle.held_index.proofs.WantLemmas.{all_whole-plain, contents-all_whole}
 use Rattle.clause_meaning.proofs.Picked.{AllZip-weaker}
-use Rattle.checked_trees.specs.Operators.{Operator, IsTyped}
+use Rattle.data_set_trees.specs.checked.Operators.{Operator, IsTyped}
 use Rattle.operator_meaning.specs.Operators.{meaning_of, AreOperands}
-use Rattle.join_meaning.specs.Joins.{JoinOn}
-use Rattle.join_meaning.specs.Typed.{IsTypedJoinOn}
+use Rattle.operator_meaning.specs.joins.Joins.{JoinOn}
+use Rattle.operator_meaning.specs.joins.Typed.{IsTypedJoinOn}
 use Rattle.outer_joins.specs.Noted.{value_at, IsNoted, all_keys_of}
 use Rattle.outer_joins.specs.Rules.{is_outer, operator_of, wanted_of}
 use Rattle.outer_joins.proofs.Right.{AllZip-length, right-answer}

@@ -27,7 +27,7 @@ use Rattle.held_index.specs.Holdings.{Holding, contents}
 use Rattle.held_index.specs.Reach.{changes_in}
 use Rattle.held_index.specs.Rules.{after_news}
 use Rattle.clause_meaning.specs.Clauses.{values_at}
-use Rattle.join_meaning.specs.Joins.{JoinOn, own_places, points_at, join_key, joined_point}
+use Rattle.operator_meaning.specs.joins.Joins.{JoinOn, own_places, points_at, join_key, joined_point}
 use Rattle.join_eval.specs.Plans.{structure_of, own_key}
 use Rattle.join_eval.proofs.Kept.{length-places}
 use Rattle.outer_joins.specs.Noted.{value_at, noted_key, IsNoted, all_keys_of}

@@ -32,12 +32,12 @@ use Rattle.held_index.specs.Rules.{SetOutcome, after_news}
 use Rattle.clause_meaning.specs.Clauses.{values_at}
 use Rattle.clause_meaning.proofs.ByRole.{of-identifiers}
 use Rattle.data_set_trees.specs.Components.{identifiers}
-use Rattle.join_meaning.specs.Joins.{JoinOn, key_components, places_of, is_key, is_whole, join_key, join_keys, points_at, joined_point, join_working, join_meaning}
-use Rattle.join_meaning.specs.Typed.{IsTypedJoinOn}
-use Rattle.join_meaning.proofs.Crossed.{listed-map}
-use Rattle.join_meaning.proofs.Covered.{fits, working-at, join-covered}
-use Rattle.join_meaning.proofs.Distinct.{from-map}
-use Rattle.join_meaning.proofs.Typed.{places-are, key-long, key-forth}
+use Rattle.operator_meaning.specs.joins.Joins.{JoinOn, key_components, places_of, is_key, is_whole, join_key, join_keys, points_at, joined_point, join_working, join_meaning}
+use Rattle.operator_meaning.specs.joins.Typed.{IsTypedJoinOn}
+use Rattle.operator_meaning.proofs.joins.Crossed.{listed-map}
+use Rattle.operator_meaning.proofs.joins.Covered.{fits, working-at, join-covered}
+use Rattle.operator_meaning.proofs.joins.Distinct.{from-map}
+use Rattle.operator_meaning.proofs.joins.Typed.{places-are, key-long, key-forth}
 use Rattle.outer_joins.specs.Noted.{value_at, all_keys_of}
 use Rattle.outer_joins.specs.Rules.{is_outer}
 

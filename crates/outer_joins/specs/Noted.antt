@@ -10,7 +10,7 @@ use Rattle.point_sets.specs.Changes.{Changes, values_eq}
 use Rattle.held_index.specs.Drafts.{SetDraft}
 use Rattle.held_index.specs.Holdings.{Holding, contents}
 use Rattle.held_index.specs.Rules.{after_news}
-use Rattle.join_meaning.specs.Joins.{JoinOn, points_at, join_key, joined_point}
+use Rattle.operator_meaning.specs.joins.Joins.{JoinOn, points_at, join_key, joined_point}
 
 -- what the join makes of what the operands have at a key
 abbrev pub value_at : JoinOn → List DataSet → List Value → Option (List Value)

@@ -4,10 +4,10 @@ use Rattle.vtl_syntax.specs.declared.words.JoinFunction.{JoinFunction}
 use Rattle.vtl_syntax.specs.declared.words.JoinFunction.TheVariants.{Inner, Left, Full, Cross}
 use Rattle.data_set_trees.specs.declared.tree.DataSetOperator.{DataSetOperator}
 use Rattle.data_set_trees.specs.declared.tree.DataSetOperator.TheVariants.{Join}
-use Rattle.checked_trees.specs.Operators.{Operator, IsTyped, an_operator}
+use Rattle.data_set_trees.specs.checked.Operators.{Operator, IsTyped, an_operator}
 use Rattle.held_index.specs.Wants.{all_whole}
 use Rattle.held_index.specs.declared.want.Want.{Want}
-use Rattle.join_meaning.specs.Joins.{JoinOn}
+use Rattle.operator_meaning.specs.joins.Joins.{JoinOn}
 
 -- a left or full join, in which each operand has all identifiers
 abbrev pub is_outer : JoinFunction → Bool

@@ -8,7 +8,7 @@ ghost use Rattle.point_sets.specs.Changes.{values_of};
 ghost use Rattle.held_index.specs.Holdings.{AllPlain, IsPlain, contents};
 ghost use Rattle.held_index.specs.Reach.{changes_in};
 ghost use Rattle.held_index.specs.Rules.{after_news};
-ghost use Rattle.join_meaning.specs.Joins.{points_at, join_key};
+ghost use Rattle.operator_meaning.specs.joins.Joins.{points_at, join_key};
 ghost use Rattle.join_eval.specs.Plans.{structure_of, own_key};
 ghost use Rattle.outer_joins.specs.Noted as meant;
 ghost use Rattle.outer_joins.specs.Noted.{IsNoted, all_keys_of};

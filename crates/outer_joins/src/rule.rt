@@ -1,7 +1,7 @@
 // The rule of a left or full join.
 ghost use Rattle.std.specs.Prelude.{◌≡◌, true, IfOk};
 ghost use Rattle.data_set_trees.specs.declared.tree.DataSetOperator.TheVariants.{Join};
-ghost use Rattle.checked_trees.specs.Operators.{an_operator, IsTyped};
+ghost use Rattle.data_set_trees.specs.checked.Operators.{an_operator, IsTyped};
 ghost use Rattle.outer_joins.specs.Rules.{is_outer, operator_of, IsOuter};
 
 use crate::notes::noted;
@@ -27,7 +27,7 @@ pub struct OuterJoinRule {
 }
 
 impl Model for OuterJoinRule {
-    ghost use Rattle.checked_trees.specs.Operators.{operator_coded, Operator};
+    ghost use Rattle.data_set_trees.specs.checked.Operators.{operator_coded, Operator};
     ghost use Rattle.outer_joins.specs.Rules.{operator_of, IsRule};
 
     ghost Value = { Operator };

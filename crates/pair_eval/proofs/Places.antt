@@ -8,11 +8,11 @@ use Rattle.vtl_values.specs.declared.kind.Role.TheVariants.{Viral}
 use Rattle.vtl_values.specs.declared.structure.Component.{Component}
 use Rattle.vtl_values.specs.declared.value.Value.{Value}
 use Rattle.structured_sets.proofs.Lists.{position-cons}
-use Rattle.clause_trees.specs.Frames.{has_role}
+use Rattle.data_set_trees.specs.clauses.Frames.{has_role}
 use Rattle.scalar_meaning.specs.Rows.{point_row}
 use Rattle.clause_meaning.specs.Clauses.{values_at, worked_values}
 use Rattle.data_set_trees.specs.Components.{identifiers, virals, has_name}
-use Rattle.pair_meaning.specs.Pairs.{PairOn, value_where, key_between, codes_of, one_or_both, viral_value, viral_values, pair_values}
+use Rattle.operator_meaning.specs.pairs.Pairs.{PairOn, value_where, key_between, codes_of, one_or_both, viral_value, viral_values, pair_values}
 use Rattle.pair_eval.specs.Plans.{numbers_between, places_of, viral_places, value_in, value_of_places}
 
 -- ---- the first that passes

@@ -9,7 +9,7 @@ use Rattle.point_sets.specs.declared.point.Point.{Point}
 use Rattle.point_sets.specs.DataSets.{key_of, rest_of}
 use Rattle.clause_eval.specs.declared.evaluation.Evaluation.{Evaluation}
 use Rattle.clause_eval.specs.Evaluations.{IsEvaluation}
-use Rattle.pair_meaning.specs.Pairs.{PairOn, pair_values}
+use Rattle.operator_meaning.specs.pairs.Pairs.{PairOn, pair_values}
 
 -- all values of the point that may be there
 abbrev pub all_values : Option (Arc Point Global) → Option (List Value)

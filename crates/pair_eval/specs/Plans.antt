@@ -6,14 +6,14 @@ use Rattle.vtl_values.specs.declared.kind.Role.TheVariants.{Viral}
 use Rattle.vtl_values.specs.declared.structure.Component.{Component}
 use Rattle.vtl_values.specs.declared.value.Value.{Value}
 use Rattle.vtl_values.specs.contracts.structure.Structure as structure
-use Rattle.clause_trees.specs.declared.clause.CheckedMeasure.{CheckedMeasure}
-use Rattle.clause_trees.specs.contracts.clause.CheckedMeasure as measure
-use Rattle.clause_trees.specs.Frames.{has_role}
+use Rattle.data_set_trees.specs.declared.clauses.clause.CheckedMeasure.{CheckedMeasure}
+use Rattle.data_set_trees.specs.contracts.clauses.clause.CheckedMeasure as measure
+use Rattle.data_set_trees.specs.clauses.Frames.{has_role}
 use Rattle.data_set_trees.specs.declared.tree.DataSetOperator.{DataSetOperator}
 use Rattle.data_set_trees.specs.declared.tree.DataSetOperator.TheVariants.{Pair}
 use Rattle.data_set_trees.specs.Components.{identifiers, virals, has_name}
-use Rattle.pair_meaning.specs.Pairs.{PairOn, is_left_main, main, partner, codes_of, one_or_both}
-use Rattle.pair_meaning.specs.Typed.{pair_on, IsTypedPair}
+use Rattle.operator_meaning.specs.pairs.Pairs.{PairOn, is_left_main, main, partner, codes_of, one_or_both}
+use Rattle.operator_meaning.specs.pairs.Typed.{pair_on, IsTypedPair}
 use Rattle.pair_eval.specs.declared.plan.Side.{Side}
 use Rattle.pair_eval.specs.declared.plan.Side.TheVariants.{Left, Right}
 use Rattle.pair_eval.specs.declared.virals.ViralPlaces.{ViralPlaces}

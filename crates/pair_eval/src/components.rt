@@ -2,7 +2,7 @@
 ghost use Rattle.std.specs.Prelude.{◌≡◌, ◌&&◌, map, position, IfOk};
 ghost use Rattle.std.specs.List.{list_any};
 ghost use Rattle.vtl_values.specs.declared.kind.Role.TheVariants.{Identifier, Viral};
-ghost use Rattle.clause_trees.specs.Frames as frames;
+ghost use Rattle.data_set_trees.specs.clauses.Frames as frames;
 ghost use Rattle.scalar_trees.specs.WellTyped as kinds;
 ghost use Rattle.data_set_trees.specs.Components as meant;
 ghost use Rattle.pair_eval.specs.Plans as plans;

@@ -2,8 +2,8 @@
 ghost use Rattle.std.specs.Prelude.{◌≡◌, ◌++◌, false, Some, is_none, IfOk};
 ghost use Rattle.std.specs.Option.{option_copied};
 ghost use Rattle.clause_eval.specs.Evaluations.{IsEvaluation};
-ghost use Rattle.pair_meaning.specs.Pairs as meant;
-ghost use Rattle.pair_meaning.specs.Typed.{IsTypedPair};
+ghost use Rattle.operator_meaning.specs.pairs.Pairs as meant;
+ghost use Rattle.operator_meaning.specs.pairs.Typed.{IsTypedPair};
 ghost use Rattle.pair_eval.specs.Plans as plans;
 ghost use Rattle.pair_eval.specs.Made.{IsMade};
 
@@ -12,7 +12,7 @@ use crate::keys::key_at;
 use crate::row::measure_values;
 use crate::virals::{ViralPlaces, push_virals};
 use clause_eval::Evaluation;
-use clause_trees::CheckedMeasure;
+use data_set_trees::clauses::CheckedMeasure;
 use data_set_trees::{DataSetOperator, SharedOperator};
 use point_sets::{Key, Point};
 use scalar_eval::{EvalStop, Matchers};
@@ -44,7 +44,7 @@ pub struct PairPlan {
 }
 
 impl Model for PairPlan {
-    ghost use Rattle.pair_meaning.specs.Pairs.{PairOn};
+    ghost use Rattle.operator_meaning.specs.pairs.Pairs.{PairOn};
     ghost use Rattle.pair_eval.specs.Plans.{pair_of, pair_coded, IsPlan};
 
     ghost Value = { PairOn };

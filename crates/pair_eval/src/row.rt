@@ -5,7 +5,7 @@ ghost use Rattle.scalar_meaning.specs.Rows.{point_row};
 ghost use Rattle.scalar_eval.specs.Stops.{IsMeant};
 ghost use Rattle.clause_meaning.specs.Clauses.{worked_values};
 
-use clause_trees::CheckedMeasure;
+use data_set_trees::clauses::CheckedMeasure;
 use point_sets::Point;
 use scalar_eval::{EvalStop, Matchers, Row, eval};
 use sqlite_items::Items;

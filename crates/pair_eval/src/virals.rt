@@ -4,7 +4,7 @@ ghost use Rattle.std.specs.Option.{option_copied};
 ghost use Rattle.std.specs.Cmp.Lexicographic.{pointwise};
 ghost use Rattle.vtl_values.specs.declared.value.Value.TheVariants.{Text};
 ghost use Rattle.viral_attributes.specs.Combination as combination;
-ghost use Rattle.pair_meaning.specs.Pairs.{codes_of};
+ghost use Rattle.operator_meaning.specs.pairs.Pairs.{codes_of};
 ghost use Rattle.pair_eval.specs.Plans as plans;
 
 use crate::row::value_of;

@@ -18,7 +18,7 @@ use Rattle.point_sets.specs.Changes.{Changes}
 use Rattle.point_sets.specs.DataSets.{DataSet}
 use Rattle.structured_sets.specs.Fitting as fitting
 use Rattle.structured_sets.proofs.Lists.{position-cons}
-use Rattle.typing_rules.proofs.Sound.{left, right}
+use Rattle.scalar_trees.proofs.typing.Sound.{left, right}
 use Rattle.clause_meaning.proofs.ByRole.{of-identifiers}
 use Rattle.data_set_trees.specs.Components.{has_name, identifiers, include, is_same}
 use Rattle.held_index.specs.Holdings.{Holding, part_of}
@@ -26,8 +26,8 @@ use Rattle.held_index.specs.WalkLaws.{place_cmp-IsTotalOrder}
 use Rattle.held_index.specs.Walks.{PointValues, component_of, part_key}
 use Rattle.held_index.specs.declared.want.Want.{Want}
 use Rattle.held_index.proofs.OrderLemmas.{length-in_order}
-use Rattle.pair_meaning.proofs.Keys.{names, same-in}
-use Rattle.pair_meaning.proofs.Names.{Apart, is_in, same-true}
+use Rattle.operator_meaning.proofs.pairs.Keys.{names, same-in}
+use Rattle.operator_meaning.proofs.pairs.Names.{Apart, is_in, same-true}
 use Rattle.pair_eval.specs.Plans.{numbers_between}
 use Rattle.pair_ops.specs.Noted.{part_steps}
 use Rattle.pair_ops.specs.Reach.{NamedValue, agree, agrees, met_keys, named_values, pairs_with}

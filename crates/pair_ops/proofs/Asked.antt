@@ -10,11 +10,11 @@ use Rattle.vtl_values.specs.declared.structure.Component.{Component}
 use Rattle.data_model.specs.Answers.{IsRight}
 use Rattle.data_model.specs.Deltas.{apply, BeginsAt, Differs}
 use Rattle.data_model.specs.Drafts.{nothing, finished}
-use Rattle.clause_trees.specs.declared.clause.CheckedMeasure.{CheckedMeasure}
+use Rattle.data_set_trees.specs.declared.clauses.clause.CheckedMeasure.{CheckedMeasure}
 use Rattle.data_set_trees.specs.declared.tree.DataSetOperator.{DataSetOperator}
 use Rattle.data_set_trees.specs.declared.tree.DataSetOperator.TheVariants.{Pair}
-use Rattle.checked_trees.specs.Operators as checked
-use Rattle.checked_trees.specs.Operators.{an_operator, Operator, IsTyped, TakesOperands}
+use Rattle.data_set_trees.specs.checked.Operators as checked
+use Rattle.data_set_trees.specs.checked.Operators.{an_operator, Operator, IsTyped, TakesOperands}
 use Rattle.operator_meaning.specs.Operators.{meaning_of, AreOperands}
 use Rattle.point_sets.specs.Changes.{Changes}
 use Rattle.point_sets.specs.DataSets.{DataSet}
@@ -26,8 +26,8 @@ use Rattle.held_index.specs.declared.stop.Stop.{Stop}
 use Rattle.held_index.specs.Wants.{in_parts, whole}
 use Rattle.held_index.specs.declared.want.Want.{Want}
 use Rattle.held_index.proofs.Rules.{IsRightAnswer-finished}
-use Rattle.pair_meaning.specs.Pairs.{PairOn, is_left_main, main, main_set, pair_meaning, partner_set}
-use Rattle.pair_meaning.specs.Typed.{IsTypedPair, pair_on}
+use Rattle.operator_meaning.specs.pairs.Pairs.{PairOn, is_left_main, main, main_set, pair_meaning, partner_set}
+use Rattle.operator_meaning.specs.pairs.Typed.{IsTypedPair, pair_on}
 use Rattle.pair_eval.specs.Plans.{partner_numbers}
 use Rattle.pair_ops.specs.Noted.{noted_main, noted_partner}
 use Rattle.pair_ops.specs.Rules.{IsPair, main_number, pair_in, partner_number, wanted_of, wants_on}

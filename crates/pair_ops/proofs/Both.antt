@@ -8,7 +8,7 @@ use Rattle.std.proofs.lemmas.List.{length-map}
 use Rattle.std.proofs.Math.ListN.{get_or-map}
 use Rattle.data_model.specs.Deltas.{Differs}
 use Rattle.data_model.specs.Drafts.{finished}
-use Rattle.checked_trees.specs.Operators.{Operator}
+use Rattle.data_set_trees.specs.checked.Operators.{Operator}
 use Rattle.operator_meaning.specs.Operators.{meaning_of, AreOperands}
 use Rattle.point_sets.specs.Changes.{Changes}
 use Rattle.point_sets.specs.declared.delta.Delta.{Delta}
@@ -18,7 +18,7 @@ use Rattle.held_index.specs.declared.stop.Stop.{Stop}
 use Rattle.held_index.specs.Wants.{in_parts, whole}
 use Rattle.held_index.specs.declared.want.Want.{Want}
 use Rattle.held_index.proofs.WantLemmas.{whole-plain}
-use Rattle.pair_meaning.specs.Pairs.{PairOn, is_left_main}
+use Rattle.operator_meaning.specs.pairs.Pairs.{PairOn, is_left_main}
 use Rattle.pair_eval.specs.Plans.{partner_numbers}
 use Rattle.pair_ops.specs.Rules.{main_number, pair_in, partner_number, wanted_of, wants_on}
 use Rattle.pair_ops.proofs.Asked.{IsOfTwo, drafted, right_answer, wanted-pair}

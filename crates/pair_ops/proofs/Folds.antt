@@ -16,7 +16,7 @@ use Rattle.point_sets.specs.Changes.{Changes, change_entry, values_of}
 use Rattle.point_sets.specs.DataSets.{HasKey, rest_of}
 use Rattle.held_index.specs.Walks.{PointValues}
 use Rattle.pair_eval.specs.Made.{all_values}
-use Rattle.pair_meaning.specs.Pairs.{PairOn}
+use Rattle.operator_meaning.specs.pairs.Pairs.{PairOn}
 use Rattle.pair_ops.specs.Noted.{ChangeValues, in_turn, met}
 
 -- all values of a point, whose key is known

@@ -34,10 +34,10 @@ use Rattle.held_index.specs.Holdings.{part_of}
 use Rattle.held_index.specs.Rules.{SetOutcome}
 use Rattle.held_index.specs.Walks.{PointValues, part_key}
 use Rattle.held_index.specs.declared.want.Want.{Want}
-use Rattle.pair_meaning.specs.Pairs.{PairOn, is_key, is_left_main, key_between, main, main_key, pair_at, pair_meaning, pair_working, partner, partner_key, result_key, values_there}
-use Rattle.pair_meaning.specs.Typed.{IsTypedPair}
-use Rattle.pair_meaning.proofs.Keys.{main-back, partner-same}
-use Rattle.pair_meaning.proofs.Paired.{listed-map, pair-meant, pair-result}
+use Rattle.operator_meaning.specs.pairs.Pairs.{PairOn, is_key, is_left_main, key_between, main, main_key, pair_at, pair_meaning, pair_working, partner, partner_key, result_key, values_there}
+use Rattle.operator_meaning.specs.pairs.Typed.{IsTypedPair}
+use Rattle.operator_meaning.proofs.pairs.Keys.{main-back, partner-same}
+use Rattle.operator_meaning.proofs.pairs.Paired.{listed-map, pair-meant, pair-result}
 use Rattle.pair_eval.specs.Made.{AllValues, is_beyond, value_of}
 use Rattle.pair_eval.specs.Plans.{partner_numbers}
 use Rattle.pair_ops.specs.Noted.{ChangeValues, in_turn, met, noted_main, noted_met, noted_partner, noted_point}

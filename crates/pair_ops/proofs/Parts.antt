@@ -23,7 +23,7 @@ use Rattle.data_set_trees.specs.Components.{identifiers, has_name}
 use Rattle.held_index.specs.declared.want.Want.{Want}
 use Rattle.held_index.specs.Holdings.{part_of}
 use Rattle.held_index.specs.Walks.{PointValues, component_of, order_cmp, part_key, place_cmp}
-use Rattle.pair_meaning.specs.Pairs.{key_between, value_where}
+use Rattle.operator_meaning.specs.pairs.Pairs.{key_between, value_where}
 use Rattle.pair_eval.specs.Plans.{numbers_between}
 
 -- ---- a value by the number of its component

@@ -5,16 +5,16 @@ use Rattle.std.specs.FinMap.{empty, keys, len}
 use Rattle.vtl_values.specs.declared.structure.Component.{Component}
 use Rattle.data_set_trees.specs.Components.{identifiers, include}
 use Rattle.data_set_trees.specs.declared.tree.DataSetOperator.TheVariants.{Pair}
-use Rattle.checked_trees.specs.Operators.{an_operator, Operator}
+use Rattle.data_set_trees.specs.checked.Operators.{an_operator, Operator}
 use Rattle.point_sets.specs.Changes.{Changes}
 use Rattle.point_sets.specs.DataSets.{DataSet}
 use Rattle.held_index.specs.Holdings.{Holding, look_steps}
 use Rattle.held_index.specs.Wants.{in_parts, whole}
 use Rattle.held_index.specs.declared.want.Want.{Want}
-use Rattle.pair_meaning.specs.Pairs.{PairOn, is_left_main}
-use Rattle.pair_meaning.specs.Typed.{pair_on}
-use Rattle.pair_meaning.proofs.Keys.{main-apart, main-includes, names}
-use Rattle.pair_meaning.proofs.Names.{Apart}
+use Rattle.operator_meaning.specs.pairs.Pairs.{PairOn, is_left_main}
+use Rattle.operator_meaning.specs.pairs.Typed.{pair_on}
+use Rattle.operator_meaning.proofs.pairs.Keys.{main-apart, main-includes, names}
+use Rattle.operator_meaning.proofs.pairs.Names.{Apart}
 use Rattle.pair_eval.specs.Plans.{numbers_between}
 use Rattle.pair_ops.specs.Noted.{walk_steps}
 use Rattle.pair_ops.specs.Reach.{NamedValue, held_of, main_points, matching_reach, met_keys, named_values, pairs_with}

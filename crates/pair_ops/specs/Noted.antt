@@ -11,7 +11,7 @@ use Rattle.point_sets.specs.Changes.{Changes, values_eq}
 use Rattle.held_index.specs.Drafts.{SetDraft}
 use Rattle.held_index.specs.Holdings.{Holding, part_of}
 use Rattle.held_index.specs.Walks.{PointValues}
-use Rattle.pair_meaning.specs.Pairs.{PairOn, is_left_main, partner_key, result_key}
+use Rattle.operator_meaning.specs.pairs.Pairs.{PairOn, is_left_main, partner_key, result_key}
 use Rattle.pair_eval.specs.Made.{AllValues, is_beyond, value_of}
 
 -- a change's key, and the values after the key before and after

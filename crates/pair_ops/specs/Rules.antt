@@ -1,13 +1,13 @@
 -- The rules of operators on pairs.
 use Rattle.std.specs.Prelude.{◌≡◌, ℕ, List, [], ◌∷◌, if◌then◌else◌, slice_index_or}
-use Rattle.clause_trees.specs.declared.clause.CheckedMeasure.{CheckedMeasure}
+use Rattle.data_set_trees.specs.declared.clauses.clause.CheckedMeasure.{CheckedMeasure}
 use Rattle.data_set_trees.specs.declared.tree.DataSetOperator.{DataSetOperator}
 use Rattle.data_set_trees.specs.declared.tree.DataSetOperator.TheVariants.{Pair}
-use Rattle.checked_trees.specs.Operators.{Operator, IsTyped}
+use Rattle.data_set_trees.specs.checked.Operators.{Operator, IsTyped}
 use Rattle.held_index.specs.Wants.{in_parts, whole}
 use Rattle.held_index.specs.declared.want.Want.{Want}
 use Rattle.pair_eval.specs.Plans.{pair_of, partner_numbers}
-use Rattle.pair_meaning.specs.Pairs.{PairOn, is_left_main}
+use Rattle.operator_meaning.specs.pairs.Pairs.{PairOn, is_left_main}
 
 -- an operator on a pair of data sets
 abbrev pub IsPair : DataSetOperator → Type 0

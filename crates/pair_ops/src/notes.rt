@@ -9,7 +9,7 @@ ghost use Rattle.point_sets.specs.Changes.{change_entry, values_eq, values_of, I
 ghost use Rattle.held_index.specs.Holdings.{IsPlain};
 ghost use Rattle.clause_eval.specs.Evaluations as found;
 ghost use Rattle.clause_eval.specs.Evaluations.{IsEvaluation};
-ghost use Rattle.pair_meaning.specs.Pairs as meant;
+ghost use Rattle.operator_meaning.specs.pairs.Pairs as meant;
 ghost use Rattle.pair_eval.specs.Made.{all_values, is_beyond, value_of};
 ghost use Rattle.pair_ops.specs.Noted.{in_turn, noted_main, noted_met, noted_partner, noted_point, part_steps, walk_steps};
 

@@ -29,7 +29,7 @@ pub struct PairRule {
 }
 
 impl Model for PairRule {
-    ghost use Rattle.checked_trees.specs.Operators.{an_operator, operator_coded, Operator};
+    ghost use Rattle.data_set_trees.specs.checked.Operators.{an_operator, operator_coded, Operator};
     ghost use Rattle.pair_ops.specs.Rules.{IsRule};
 
     ghost Value = { Operator };
@@ -57,7 +57,7 @@ fn wants_of(alloc: Global, plan: &PairPlan) -> Result<Items<Want>, AllocError>
 
 impl PairRule {
     ghost use Rattle.std.specs.Prelude.{◌<◌, length};
-    ghost use Rattle.checked_trees.specs.Operators.{an_operator, IsTyped};
+    ghost use Rattle.data_set_trees.specs.checked.Operators.{an_operator, IsTyped};
     ghost use Rattle.pair_ops.specs.Rules.{pair_in, IsPair};
 
     /// The rule of a node's operator, which is one on a pair.

@@ -1,6 +1,6 @@
 // What is asked of the components of a result.
 ghost use Rattle.std.specs.Prelude.{◌≡◌, IfOk};
-ghost use Rattle.aggregate_trees.specs.Aggregates as meant;
+ghost use Rattle.data_set_trees.specs.aggregates.Aggregates as meant;
 
 use indexmap::IndexSet;
 use std::alloc::{AllocError, Global};

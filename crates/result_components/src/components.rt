@@ -1,7 +1,7 @@
 // The components of a result.
 ghost use Rattle.std.specs.Prelude.{◌≡◌, slice_get, IfOk};
-ghost use Rattle.aggregate_trees.specs.Results as results;
-ghost use Rattle.clause_trees.specs.Frames as meant;
+ghost use Rattle.data_set_trees.specs.aggregates.Results as results;
+ghost use Rattle.data_set_trees.specs.clauses.Frames as meant;
 
 use clause_typing::{frame_of, has_role};
 use sqlite_items::Items;

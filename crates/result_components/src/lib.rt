@@ -1,10 +1,10 @@
 //! Which components an operator on one data set gives, and what is asked of them.
 //!
-//! It stands on `aggregate_trees` for the definitions and on `clause_typing` for frames. The operators are those that give
-//! components of their operand and beside them new ones, as aggregates and analytic operators do: they take components by
-//! their numbers, put what they make after them, and order all by role. Of the result it is asked that no two components
-//! have one name and that there are at most 64. Each call answers exactly what the definition of its name says, or want of
-//! memory.
+//! It stands on `data_set_trees::aggregates` for the definitions and on `clause_typing` for frames. The operators are
+//! those that give components of their operand and beside them new ones, as aggregates and analytic operators do: they
+//! take components by their numbers, put what they make after them, and order all by role. Of the result it is asked
+//! that no two components have one name and that there are at most 64. Each call answers exactly what the definition of
+//! its name says, or want of memory.
 #![tactic(auto)]
 
 mod asked;

@@ -2,11 +2,11 @@
 ghost use Rattle.std.specs.Prelude.{◌≡◌, codes, is_some, IfOk};
 ghost use Rattle.std.specs.List.{list_all};
 ghost use Rattle.vtl_values.specs.declared.kind.Role.TheVariants.{Identifier};
-ghost use Rattle.clause_trees.specs.Clauses as meant;
-ghost use Rattle.clause_trees.specs.Frames as frames;
+ghost use Rattle.data_set_trees.specs.clauses.Clauses as meant;
+ghost use Rattle.data_set_trees.specs.clauses.Frames as frames;
 
-use clause_trees::Frame;
 use clause_typing::{bare_number_of, has_role};
+use data_set_trees::clauses::Frame;
 use std::alloc::{AllocError, Global};
 use vtl_values::{Role, Word};
 

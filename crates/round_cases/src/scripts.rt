@@ -4,8 +4,8 @@ ghost use Rattle.round_cases.specs.Limits.{AreAllowed};
 
 use anyhow::{Result, bail};
 use built_scripts::{CheckedScript, runnable};
-use checked_trees::TypedScript;
 use commands::script::typed_script;
+use data_set_trees::checked::TypedScript;
 use round_core::{ENTRY_LIMIT, FIELD_LIMIT, Limits, Production, SCRIPT_LIMIT};
 use serde_json::Value as Json;
 use sqlite_items::Items;

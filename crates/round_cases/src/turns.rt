@@ -1,8 +1,11 @@
 // Callers that claim a statement, work it out and give it back.
-ghost use Rattle.std.specs.Prelude.{◌≡◌, ◌<◌};
+ghost use Rattle.std.specs.Prelude.{◌≡◌, ◌<◌, IfOk, OnErr};
+ghost use Rattle.round_core.specs.Seen.{seen_with};
 ghost use Rattle.transform_nodes.specs.Nodes.{CanRun};
 ghost use Rattle.round_journal.specs.Journals.{State};
 ghost use Rattle.round_journal.specs.Stands.{WorkStands, DoneStands};
+ghost use Rattle.round_journal.specs.declared.entry.What.TheVariants.{Judged};
+ghost use Rattle.round_journal.specs.declared.verdict.Verdict.{Verdict as Verdicts};
 
 use built_scripts::CheckedScript;
 use data_model::steps::Steps;
@@ -68,6 +71,20 @@ pub fn take_turn<R: Threads + Sync>(
     Ok(production.give(by, done))
 }
 
+// While a statement is out another caller finds none that is ready, and a third one's revision is judged.
+fn judge_meanwhile(production: &mut Production, news: Revision) -> Result<(), TurnStop>
+    ensures judged { IfOk result (λ _. (v : Verdicts) × (production.new ≡ seen_with production.old 3 (Judged news v))) }
+    ensures script { production.new.script ≡ production.old.script }
+{
+    let Err(ClaimStop::NoneReady { out: 1 }) = give_up(production, 2) else {
+        return Err(TurnStop::Unexpected);
+    };
+    let Verdict::Accepted(2) = production.judge_one(3, news)? else {
+        return Err(TurnStop::Unexpected);
+    };
+    Ok(())
+}
+
 /// The same. While the statement is out another caller finds none that is ready, and a third one's revision is judged.
 pub fn take_turn_with_news<R: Threads + Sync>(
     rt: &R,
@@ -79,12 +96,7 @@ pub fn take_turn_with_news<R: Threads + Sync>(
     ensures { production.new.script ≡ production.old.script }
 {
     let work = production.claim(by)?;
-    let Err(ClaimStop::NoneReady { out: 1 }) = production.claim(2) else {
-        return Err(TurnStop::Unexpected);
-    };
-    let Verdict::Accepted(2) = production.judge_one(3, news)? else {
-        return Err(TurnStop::Unexpected);
-    };
+    judge_meanwhile(production, news)?;
     // Called for its clause, that the journal is legal.
     let _ = production.journal();
     let done = run_work::<R, Brand>(rt, alloc, Blank::new(1), work);
@@ -112,7 +124,8 @@ pub fn take_turn_with_script<R: Threads + Sync>(
 
 /// A caller claims a statement and gives it up.
 pub fn give_up(production: &mut Production, by: u64) -> Result<Given, ClaimStop>
-    ensures { production.new.script ≡ production.old.script }
+    ensures script { production.new.script ≡ production.old.script }
+    ensures err { OnErr result (production.new ≡ production.old) }
 {
     let work = production.claim(by)?;
     Ok(production.give(by, work.give_up()))

@@ -6,9 +6,9 @@ use Rattle.std.proofs.lemmas.List.{take_all}
 use Rattle.std.proofs.lemmas.List.Elements.{All-contains}
 use Rattle.std.proofs.lemmas.List.Sums.{count_by_more_yes, count_by_more_no}
 use Rattle.operator_meaning.proofs.ScriptLemmas.{in_order}
-use Rattle.transform_nodes.specs.declared.work.Finish.{Finish}
-use Rattle.transform_nodes.specs.declared.work.Finish.TheVariants.{Right as FinishRight, Fault, GaveUp as FinishGaveUp}
-use Rattle.checked_trees.specs.Scripts.{Script}
+use Rattle.round_journal.specs.work.Finish.{Finish}
+use Rattle.round_journal.specs.work.Finish.TheVariants.{Right as FinishRight, Fault, GaveUp as FinishGaveUp}
+use Rattle.data_set_trees.specs.checked.Scripts.{Script}
 use Rattle.round_journal.specs.declared.entry.What.{What}
 use Rattle.round_journal.specs.declared.entry.What.TheVariants.{Published, Failed, Dropped}
 use Rattle.round_journal.specs.Journals.{State, start, state_of, number, after_what, NoneReady, Ready, Over, fault_said, Legal, MayCome}

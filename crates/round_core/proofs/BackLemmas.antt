@@ -9,16 +9,16 @@ use Rattle.std.specs.declared.alloc.Global.{Global}
 use Rattle.std.proofs.lemmas.List.{length-map, get_or-map}
 use Rattle.data_model.specs.Deltas.{Leads}
 use Rattle.point_sets.specs.Changes.{Changes}
-use Rattle.checked_trees.specs.declared.script.CheckedStatement.{CheckedStatement}
+use Rattle.data_set_trees.specs.declared.checked.script.CheckedStatement.{CheckedStatement}
 use Rattle.data_set_trees.specs.declared.tree.Source.TheVariants.{Result as ResultOf}
-use Rattle.checked_trees.specs.Scripts.{Script, uses_of}
+use Rattle.data_set_trees.specs.checked.Scripts.{Script, uses_of}
 use Rattle.operator_meaning.specs.Scripts.{Fails, states}
 use Rattle.release_text.specs.Releases.{Page}
-use Rattle.transform_nodes.specs.declared.node.Node.{Node}
-use Rattle.transform_nodes.specs.declared.fault.NodeFault.{NodeFault}
-use Rattle.transform_nodes.specs.declared.work.Settle.TheVariants.{Apply}
-use Rattle.transform_nodes.specs.Faults.{wrong_of}
-use Rattle.transform_nodes.specs.Nodes.{operand_on, published, IsRight}
+use Rattle.round_journal.specs.node.Node.{Node}
+use Rattle.round_journal.specs.fault.NodeFault.{NodeFault}
+use Rattle.round_journal.specs.work.Settle.TheVariants.{Apply}
+use Rattle.round_journal.specs.Faults.{wrong_of}
+use Rattle.round_journal.specs.Nodes.{operand_on, published, IsRight}
 use Rattle.round_journal.specs.declared.entry.Entry.{Entry}
 use Rattle.round_journal.specs.declared.entry.What.TheVariants.{Returned, GaveUp}
 use Rattle.round_journal.specs.Journals.{State, Back, old_inputs, new_inputs}

@@ -12,13 +12,13 @@ use Rattle.std.proofs.lemmas.List.Elements.{All-weaker, All-append}
 use Rattle.point_sets.specs.DataSets.{DataSet}
 use Rattle.point_sets.specs.Changes.{Changes}
 use Rattle.data_set_trees.specs.declared.tree.Source.{Source}
-use Rattle.checked_trees.specs.Scripts.{Script, sources_of}
+use Rattle.data_set_trees.specs.checked.Scripts.{Script, sources_of}
 use Rattle.operator_meaning.specs.Scripts.{with_at}
 use Rattle.operator_meaning.proofs.ScriptLemmas.{with_at-same, with_at-other}
-use Rattle.transform_nodes.specs.declared.node.Node.{Node}
-use Rattle.transform_nodes.specs.declared.work.Settle.{Settle}
-use Rattle.transform_nodes.specs.declared.work.Work.{Work}
-use Rattle.transform_nodes.specs.Nodes.{WorkStandsFor, StandsAs, AllHave, AllLead}
+use Rattle.round_journal.specs.node.Node.{Node}
+use Rattle.round_journal.specs.work.Settle.{Settle}
+use Rattle.round_journal.specs.work.Work.{Work}
+use Rattle.round_journal.specs.Nodes.{WorkStandsFor, StandsAs, AllHave, AllLead}
 use Rattle.round_journal.specs.declared.entry.Entry.{Entry}
 use Rattle.round_journal.specs.declared.entry.What.{What}
 use Rattle.round_journal.specs.declared.entry.What.TheVariants.{Claimed}

@@ -12,16 +12,16 @@ use Rattle.std.proofs.lemmas.Bool.{eq-eqb, ne_eqb, cases_lt, cases_eq}
 use Rattle.round_core.specs.Answers.{told}
 use Rattle.std.proofs.lemmas.Option.{slice_get-get_or}
 use Rattle.point_sets.specs.DataSets.{DataSet}
-use Rattle.checked_trees.specs.Scripts.{Script}
+use Rattle.data_set_trees.specs.checked.Scripts.{Script}
 use Rattle.operator_meaning.specs.Scripts.{State as StatementState, Total, states, points_in, script_wrong, or_total, POINTS_LIMIT}
 use Rattle.release_text.specs.Releases.{Page}
 use Rattle.release_text.specs.declared.release.Release.{Release}
-use Rattle.transform_nodes.specs.declared.node.Node.{Node}
-use Rattle.transform_nodes.specs.declared.fault.NodeFault.{NodeFault}
-use Rattle.transform_nodes.specs.declared.work.Settle.{Settle}
-use Rattle.transform_nodes.specs.declared.work.Settle.TheVariants.{Apply, Forget}
-use Rattle.transform_nodes.specs.Faults.{wrong_of}
-use Rattle.transform_nodes.specs.Nodes.{published}
+use Rattle.round_journal.specs.node.Node.{Node}
+use Rattle.round_journal.specs.fault.NodeFault.{NodeFault}
+use Rattle.round_journal.specs.work.Settle.{Settle}
+use Rattle.round_journal.specs.work.Settle.TheVariants.{Apply, Forget}
+use Rattle.round_journal.specs.Faults.{wrong_of}
+use Rattle.round_journal.specs.Nodes.{published}
 use Rattle.round_journal.specs.declared.entry.Entry.{Entry}
 use Rattle.round_journal.specs.declared.entry.What.{What}
 use Rattle.round_journal.specs.declared.entry.What.TheVariants.{Published, Failed, Dropped}

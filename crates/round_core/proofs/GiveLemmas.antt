@@ -13,14 +13,14 @@ use Rattle.point_sets.specs.DataSets.{DataSet}
 use Rattle.point_sets.specs.Changes.{Changes}
 use Rattle.data_set_trees.specs.declared.tree.Source.{Source}
 use Rattle.data_set_trees.specs.declared.tree.Source.TheVariants.{Input, Result as ResultOf}
-use Rattle.checked_trees.specs.Scripts.{Script, sources_of, names_of}
+use Rattle.data_set_trees.specs.checked.Scripts.{Script, sources_of, names_of}
 use Rattle.operator_meaning.specs.Results.{Wrong as Fault}
 use Rattle.operator_meaning.specs.Scripts.{Fails, states, set_in, with_at}
 use Rattle.operator_meaning.proofs.ScriptLemmas.{with_at-same, with_at-other}
-use Rattle.transform_nodes.specs.declared.node.Node.{Node}
-use Rattle.transform_nodes.specs.declared.work.DoneParts.{DoneParts}
-use Rattle.transform_nodes.specs.declared.work.Settle.TheVariants.{Forget}
-use Rattle.transform_nodes.specs.Nodes.{operand_on, StandsAs, DoneStandsFor, FinishFor}
+use Rattle.round_journal.specs.node.Node.{Node}
+use Rattle.round_journal.specs.work.DoneParts.{DoneParts}
+use Rattle.round_journal.specs.work.Settle.TheVariants.{Forget}
+use Rattle.round_journal.specs.Nodes.{operand_on, StandsAs, DoneStandsFor, FinishFor}
 use Rattle.round_journal.specs.declared.entry.Entry.{Entry}
 use Rattle.round_journal.specs.declared.entry.What.{What}
 use Rattle.round_journal.specs.declared.entry.What.TheVariants.{Returned, GaveUp}

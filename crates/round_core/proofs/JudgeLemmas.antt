@@ -5,7 +5,7 @@ use Rattle.std.specs.List.{All}
 use Rattle.std.specs.Arc.{arc_value}
 use Rattle.point_sets.specs.DataSets.{DataSet}
 use Rattle.point_sets.specs.declared.revision.Revision.{Revision}
-use Rattle.checked_trees.specs.Scripts.{Script}
+use Rattle.data_set_trees.specs.checked.Scripts.{Script}
 use Rattle.revision_judge.specs.declared.ruling.Refusal.{Refusal}
 use Rattle.revision_judge.specs.declared.ruling.Ruling.TheVariants as ruling
 use Rattle.revision_judge.specs.declared.ruling.Share.{Share}

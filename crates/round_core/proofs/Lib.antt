@@ -16,3 +16,8 @@ mod StepLemmas
 mod RunLemmas
 mod AnswerLemmas
 mod RescriptLemmas
+-- on journals, for what stands above
+pub use Rattle.round_journal.proofs.BoundLemmas
+pub use Rattle.round_journal.proofs.InputLemmas
+pub use Rattle.round_journal.proofs.JournalLemmas
+pub use Rattle.round_journal.proofs.StandLemmas

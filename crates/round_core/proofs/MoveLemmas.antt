@@ -9,12 +9,12 @@ use Rattle.point_sets.specs.DataSets.{DataSet}
 use Rattle.point_sets.specs.Changes.{Changes}
 use Rattle.data_set_trees.specs.declared.tree.Source.{Source}
 use Rattle.data_set_trees.specs.declared.tree.Source.TheVariants.{Input, Result as ResultOf}
-use Rattle.checked_trees.specs.Scripts.{Script}
+use Rattle.data_set_trees.specs.checked.Scripts.{Script}
 use Rattle.operator_meaning.specs.Scripts.{with_at}
 use Rattle.operator_meaning.proofs.ScriptLemmas.{with_at-same, with_at-other}
-use Rattle.transform_nodes.specs.declared.node.Node.{Node}
-use Rattle.transform_nodes.specs.declared.work.Settle.{Settle}
-use Rattle.transform_nodes.specs.declared.work.Settle.TheVariants.{Forget, Apply}
+use Rattle.round_journal.specs.node.Node.{Node}
+use Rattle.round_journal.specs.work.Settle.{Settle}
+use Rattle.round_journal.specs.work.Settle.TheVariants.{Forget, Apply}
 use Rattle.round_journal.specs.Journals.{Status, Waiting, Back, Spoiled, IsThere}
 use Rattle.round_core.specs.declared.slot.Slot.{Slot}
 use Rattle.round_core.specs.declared.slot.Stage.{Stage}
@@ -77,5 +77,5 @@ zip_of R [] (y ∷ ys) l h = absurd (omega (arith, l))
 zip_of R (d ∷ ds) [] l h = absurd (omega (arith, l))
 zip_of R (d ∷ ds) (y ∷ ys) l h = (h 0 d y (omega arith), zip_of R ds ys (omega (arith, l)) (λ k d' e m. h (suc k) d' e (omega (arith, m))))
 
-pub news_lead : (v : Scene) (news : List (Arc Changes Global)) (sources : List Source) → NewsKept v news sources → All (IsThere v.script v.status v.news) sources → Rattle.transform_nodes.specs.Nodes.AllLead v.script (map arc_value news) sources v.olds v.news
+pub news_lead : (v : Scene) (news : List (Arc Changes Global)) (sources : List Source) → NewsKept v news sources → All (IsThere v.script v.status v.news) sources → Rattle.round_journal.specs.Nodes.AllLead v.script (map arc_value news) sources v.olds v.news
 news_lead v news sources k there = zip_of _ news sources k.many (λ m d e l. k.each m d e l (there m e l))

@@ -6,11 +6,11 @@ use Rattle.std.proofs.lemmas.Bool.{cases_Bool, cases_eq, eq-eqb, ne_eqb, eqb-tru
 use Rattle.std.proofs.lemmas.List.Elements.{All-nil, All-head, All-tail, All-cons, All-weaker}
 use Rattle.std.proofs.lemmas.List.Kept.{AllPairs-filter}
 use Rattle.std.proofs.lemmas.List.Sums.{sum_by-cons}
-use Rattle.checked_trees.specs.declared.script.CheckedStatement.{CheckedStatement}
+use Rattle.data_set_trees.specs.declared.checked.script.CheckedStatement.{CheckedStatement}
 use Rattle.data_set_trees.specs.declared.tree.Source.{Source}
 use Rattle.data_set_trees.specs.declared.tree.Source.TheVariants.{Input, Result as ResultOf}
-use Rattle.checked_trees.specs.Expressions.{expression_of}
-use Rattle.checked_trees.specs.Scripts.{Script, is_same, once_each, names_in, sources_of, names_result, uses_of}
+use Rattle.data_set_trees.specs.checked.Expressions.{expression_of}
+use Rattle.data_set_trees.specs.checked.Scripts.{Script, is_same, once_each, names_in, sources_of, names_result, uses_of}
 use Rattle.operator_meaning.proofs.ScriptLemmas.{names_of-there}
 use Rattle.round_core.specs.declared.slot.Slot.{Slot}
 use Rattle.round_core.specs.Slots.{names_it, NamesAt, NamesNone}

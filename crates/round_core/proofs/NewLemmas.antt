@@ -7,13 +7,13 @@ use Rattle.std.specs.declared.alloc.Global.{Global}
 use Rattle.std.proofs.lemmas.List.{length-map}
 use Rattle.std.proofs.lemmas.Option.{slice_get_within}
 use Rattle.point_sets.specs.DataSets.{DataSet}
-use Rattle.checked_trees.specs.Scripts.{Script, IsChecked}
+use Rattle.data_set_trees.specs.checked.Scripts.{Script, IsChecked}
 use Rattle.operator_meaning.specs.Results.{without_points}
 use Rattle.operator_meaning.proofs.EmptyLemmas.{states-empty}
 use Rattle.release_text.specs.Releases.{Page}
 use Rattle.release_text.specs.declared.release.Release.{Release}
 use Rattle.revision_judge.specs.Judging.{input}
-use Rattle.transform_nodes.specs.Nodes.{published}
+use Rattle.round_journal.specs.Nodes.{published}
 use Rattle.round_journal.specs.declared.entry.Entry.{Entry}
 use Rattle.round_journal.specs.Journals.{State, start, state_of, Legal, Over}
 use Rattle.round_journal.proofs.ReleaseLemmas.{operand_on-has, pages_on-each}

@@ -6,7 +6,7 @@ use Rattle.std.proofs.lemmas.List.Elements.{All-weaker}
 use Rattle.std.proofs.lemmas.Option.{slice_get_within}
 use Rattle.data_set_trees.specs.declared.tree.Source.{Source}
 use Rattle.data_set_trees.specs.declared.tree.Source.TheVariants.{Input, Result as ResultOf}
-use Rattle.checked_trees.specs.Scripts.{Script, IsChecked, sources_of, structure_of_source}
+use Rattle.data_set_trees.specs.checked.Scripts.{Script, IsChecked, sources_of, structure_of_source}
 use Rattle.operator_meaning.specs.Scripts.{states, set_in}
 use Rattle.round_journal.specs.Journals.{State, Waiting, Out, Back, new_inputs, IsThere, Ready, NoneReady, Over, IsOfProduction}
 use Rattle.round_journal.proofs.ScriptLemmas.{sources_of-all, names_of-typed}

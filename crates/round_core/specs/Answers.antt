@@ -1,13 +1,13 @@
 -- What the calls of a production answer (docs/language.md, "Rounds").
 use Rattle.std.specs.Prelude.{◌≡◌, ◌==◌, ◌||◌, ◌&&◌, ◌+◌, ℕ, zero, suc, Bool, true, false, not, nat_lt, min, length, Option, Some, None, if◌then◌else◌}
 use Rattle.point_sets.specs.declared.revision.Revision.{Revision}
-use Rattle.transform_nodes.specs.declared.work.Work.{Work}
-use Rattle.transform_nodes.specs.declared.work.Finish.{Finish}
-use Rattle.transform_nodes.specs.declared.work.Finish.TheVariants.{Right, Fault, GaveUp as FinishGaveUp}
+use Rattle.round_journal.specs.work.Work.{Work}
+use Rattle.round_journal.specs.work.Finish.{Finish}
+use Rattle.round_journal.specs.work.Finish.TheVariants.{Right, Fault, GaveUp as FinishGaveUp}
 use Rattle.std.specs.Arc.{arc_value}
 use Rattle.std.specs.declared.sync.Arc.{Arc}
 use Rattle.std.specs.declared.alloc.Global.{Global}
-use Rattle.checked_trees.specs.Scripts.{Script}
+use Rattle.data_set_trees.specs.checked.Scripts.{Script}
 use Rattle.round_journal.specs.Journals.{State, Status, Waiting, Out, Back, Spoiled, fields_of, aside, round_need, round_wrong, Over, FirstReady, IsOutBy, fault_said}
 use Rattle.round_journal.specs.declared.verdict.ScriptFault.{ScriptFault}
 use Rattle.operator_meaning.specs.Scripts.{ScriptWrong}

@@ -7,18 +7,18 @@ use Rattle.std.specs.declared.alloc.Global.{Global}
 use Rattle.data_model.specs.Deltas.{Leads}
 use Rattle.point_sets.specs.DataSets.{DataSet}
 use Rattle.point_sets.specs.Changes.{Changes}
-use Rattle.checked_trees.specs.declared.script.CheckedStatement.{CheckedStatement}
+use Rattle.data_set_trees.specs.declared.checked.script.CheckedStatement.{CheckedStatement}
 use Rattle.data_set_trees.specs.declared.tree.Source.{Source}
-use Rattle.checked_trees.specs.Scripts.{Script, IsChecked, sources_of}
+use Rattle.data_set_trees.specs.checked.Scripts.{Script, IsChecked, sources_of}
 use Rattle.operator_meaning.specs.Results.{Evaluated}
 use Rattle.operator_meaning.specs.Scripts.{Has, Fails, states}
 use Rattle.release_text.specs.Releases.{Page}
-use Rattle.transform_nodes.specs.declared.node.Node.{Node}
-use Rattle.transform_nodes.specs.declared.work.Settle.{Settle}
-use Rattle.transform_nodes.specs.declared.work.Settle.TheVariants.{Apply, Forget}
-use Rattle.transform_nodes.specs.Faults.{wrong_of}
-use Rattle.transform_nodes.specs.Nodes.{operand_on, StandsAs, published}
-use Rattle.transform_nodes.specs.Trees.{counted}
+use Rattle.round_journal.specs.node.Node.{Node}
+use Rattle.round_journal.specs.work.Settle.{Settle}
+use Rattle.round_journal.specs.work.Settle.TheVariants.{Apply, Forget}
+use Rattle.round_journal.specs.Faults.{wrong_of}
+use Rattle.round_journal.specs.Nodes.{operand_on, StandsAs, published}
+use Rattle.round_journal.specs.Trees.{counted}
 use Rattle.round_journal.specs.Journals.{State, Named, state_of, Status, Legal, number, base as base_of, old_inputs, new_inputs, inputs_now, IsThere, Over, aside}
 use Rattle.round_journal.specs.Journals as journals
 use Rattle.round_journal.specs.Releases.{IsReleaseOf, IsRelease}

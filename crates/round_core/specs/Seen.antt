@@ -1,8 +1,8 @@
 -- What callers see of a production.
 use Rattle.std.specs.Prelude.{ℕ, List, [], ◌∷◌, ◌++◌, length, refl}
 use Rattle.std.specs.Coded.{Coded, code_by, coded×, coded_list}
-use Rattle.checked_trees.specs.Scripts.{Script, script_coded}
-use Rattle.checked_trees.specs.declared.script.CheckedStatement.{CheckedStatement}
+use Rattle.data_set_trees.specs.checked.Scripts.{Script, script_coded}
+use Rattle.data_set_trees.specs.declared.checked.script.CheckedStatement.{CheckedStatement}
 use Rattle.round_journal.specs.Journals.{State, state_of}
 use Rattle.round_journal.specs.declared.entry.Entry.{Entry}
 use Rattle.round_journal.specs.declared.entry.What.{What}

@@ -7,14 +7,14 @@ use Rattle.std.specs.Prelude.{Vec}
 use Rattle.point_sets.specs.Changes.{Changes}
 use Rattle.data_set_trees.specs.declared.tree.Source.{Source}
 use Rattle.data_set_trees.specs.declared.tree.Source.TheVariants.{Input, Result as ResultOf}
-use Rattle.checked_trees.specs.Scripts.{is_same}
+use Rattle.data_set_trees.specs.checked.Scripts.{is_same}
 use Rattle.release_text.specs.Releases.{Page}
 use Rattle.round_journal.specs.Releases.{and_page}
-use Rattle.transform_nodes.specs.declared.node.Node.{Node}
-use Rattle.transform_nodes.specs.declared.work.Settle.{Settle}
-use Rattle.transform_nodes.specs.declared.work.Settle.TheVariants.{Apply, Forget}
+use Rattle.round_journal.specs.node.Node.{Node}
+use Rattle.round_journal.specs.work.Settle.{Settle}
+use Rattle.round_journal.specs.work.Settle.TheVariants.{Apply, Forget}
 use Rattle.operator_meaning.specs.Scripts.{POINTS_LIMIT}
-use Rattle.transform_nodes.specs.declared.fault.NodeFault.{NodeFault}
+use Rattle.round_journal.specs.fault.NodeFault.{NodeFault}
 use Rattle.round_core.specs.declared.ends.End.{End}
 use Rattle.round_core.specs.declared.ends.End.TheVariants.{GoesOn, Dropped, Fault, Total, Published}
 use Rattle.round_core.specs.declared.slot.Slot.{Slot}

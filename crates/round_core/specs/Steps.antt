@@ -10,8 +10,8 @@ use Rattle.point_sets.specs.Changes.{Changes}
 use Rattle.point_sets.specs.declared.revision.Revision.{Revision}
 use Rattle.data_set_trees.specs.declared.tree.Source.{Source}
 use Rattle.data_set_trees.specs.declared.tree.Source.TheVariants.{Input, Result as ResultOf}
-use Rattle.checked_trees.specs.Scripts.{Script, sources_of}
-use Rattle.transform_nodes.specs.declared.work.Settle.TheVariants.{Forget}
+use Rattle.data_set_trees.specs.checked.Scripts.{Script, sources_of}
+use Rattle.round_journal.specs.work.Settle.TheVariants.{Forget}
 use Rattle.round_journal.specs.Journals.{number, verdict_on, round_need, fault_said}
 use Rattle.round_journal.specs.declared.verdict.ScriptFault.{ScriptFault}
 use Rattle.round_journal.specs.declared.entry.What.TheVariants.{Judged, Published, Failed, Dropped}

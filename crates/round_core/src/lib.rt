@@ -23,4 +23,5 @@ pub mod stops;
 pub use law::every_production_stands;
 pub use limits::{ENTRY_LIMIT, FIELD_LIMIT, Full, Limits, SCRIPT_LIMIT};
 pub use production::Production;
+pub use round_journal::{NodeFault, ScriptFault, Verdict};
 pub use stops::{ClaimStop, Given, NoRelease, OpenStop, RescriptStop, SubmitStop};

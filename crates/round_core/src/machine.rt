@@ -1,7 +1,7 @@
 // A production's parts, and what each call makes of them.
 ghost use Rattle.std.specs.Prelude.{◌≡◌, ◌≢◌, ◌≤◌, ◌<◌, ◌+◌, ◌-◌, ◌↔◌, ◌++◌, ◌∷◌, [], ℕ, slice_index_or, slice_set, drop, true, false, IfOk, IfSome, OnErr, Some, None, length, vec_len, vec_capacity};
 ghost use Rattle.std.specs.List.{All};
-ghost use Rattle.checked_trees.specs.Scripts.{IsChecked};
+ghost use Rattle.data_set_trees.specs.checked.Scripts.{IsChecked};
 ghost use Rattle.revision_judge.specs.Judging.{judged};
 ghost use Rattle.revision_judge.specs.Shares.{StandsForJudgement};
 ghost use Rattle.std.specs.Arc.{arc_value};
@@ -27,12 +27,11 @@ use built_scripts::CheckedScript;
 use point_sets::{Part, Revision};
 use release_text::{Pages, Release};
 use revision_judge::{Refusal, Ruling, Share, judge};
-use round_journal::{Entry, Journal, ScriptFault, Verdict, What};
+use round_journal::{DoneParts, Entry, Finish, Journal, Node, ScriptFault, Verdict, What, Work};
 use sqlite_items::Items;
 use std::alloc::{AllocError, Global};
 use std::mem;
 use std::sync::Arc;
-use transform_nodes::{DoneParts, Finish, Node, Work};
 use vtl_values::Word;
 
 /// The parts of a production: the first script, the newest one, and that of the last round; the limits, all that

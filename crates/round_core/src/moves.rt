@@ -3,7 +3,7 @@ ghost use Rattle.std.specs.Prelude.{◌≡◌, ◌≤◌, ◌<◌, ◌+◌, ◌+
 ghost use Rattle.std.specs.Arc.{arc_value};
 ghost use Rattle.std.specs.FinMap as finmap;
 ghost use Rattle.round_journal.specs.Releases.{and_page};
-ghost use Rattle.transform_nodes.specs.Nodes.{published};
+ghost use Rattle.round_journal.specs.Nodes.{published};
 ghost use Rattle.round_core.specs.Slots.{EachSlot, SameHomes, HandedOn, names_it, pages_by, pages_in};
 ghost use Rattle.round_core.specs.declared.slot.Slot.{Slot};
 ghost use Rattle.round_core.specs.Steps.{IsPrepared, IsFirstNews, AreFirstNews, IsFirstSlot};
@@ -12,14 +12,14 @@ use crate::inputs::InputChange;
 use crate::runs::nothing;
 use crate::slot::{Slot, Stage};
 use built_scripts::CheckedScript;
-use checked_trees::CheckedStatement;
 use data_set_trees::Source;
+use data_set_trees::checked::CheckedStatement;
 use point_sets::Delta;
 use release_text::Pages;
+use round_journal::Node;
 use sqlite_items::Items;
 use std::alloc::{AllocError, Global};
 use std::sync::Arc;
-use transform_nodes::Node;
 
 /// Makes the slots ready for a round: each statement waits, and has the changes of the inputs that it names in their
 /// places, and a change of nothing in the places of results.

@@ -1,6 +1,6 @@
 // Productions.
 ghost use Rattle.std.specs.Prelude.{◌≡◌, ◌≢◌, ◌≤◌, ◌<◌, ◌+◌, ◌↔◌, ℕ, true, false, [], IfOk, OnErr, Some, length};
-ghost use Rattle.checked_trees.specs.Scripts.{Script};
+ghost use Rattle.data_set_trees.specs.checked.Scripts.{Script};
 ghost use Rattle.operator_meaning.specs.Scripts.{ScriptWrong, script_wrong};
 ghost use Rattle.round_journal.specs.Journals.{State, Over, NoneReady, IsOutBy, Legal, aside, inputs, verdict_on, fault_said, number as number_of};
 ghost use Rattle.round_journal.specs.Stands.{DoneStands};
@@ -18,10 +18,9 @@ use crate::stops::{ClaimStop, Given, NoRelease, OpenStop, RescriptStop, SubmitSt
 use built_scripts::CheckedScript;
 use point_sets::Revision;
 use release_text::Release;
-use round_journal::{Entry, Journal, Verdict, What};
+use round_journal::{Done, Entry, Journal, Verdict, What, Work};
 use std::alloc::{AllocError, Global};
 use std::marker::Model;
-use transform_nodes::{Done, Work};
 
 /// A script with its inputs, rounds and releases, and the scripts that replaced it. Contracts see the first script, the
 /// limits and the journal.

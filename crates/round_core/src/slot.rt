@@ -9,11 +9,11 @@ ghost use Rattle.round_core.specs.Slots.{settle_by, back_with, is_out, pages_of_
 use data_set_trees::Source;
 use point_sets::Delta;
 use release_text::Pages;
+use round_journal::{Node, NodeFault, Settle};
 use sqlite_items::Items;
 use std::alloc::Global;
 use std::mem;
 use std::sync::Arc;
-use transform_nodes::{Node, NodeFault, Settle};
 
 /// Where a statement is in a round, and what it came back with.
 #[derive(Drop)]

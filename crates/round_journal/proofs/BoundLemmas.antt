@@ -7,7 +7,7 @@ use Rattle.point_sets.specs.DataSets.{DataSet}
 use Rattle.revision_judge.specs.Judging.{no_points}
 use Rattle.data_set_trees.specs.declared.tree.Source.{Source}
 use Rattle.data_set_trees.specs.declared.tree.Source.TheVariants.{Input, Result as ResultOf}
-use Rattle.checked_trees.specs.Scripts.{Script, IsChecked, names_of}
+use Rattle.data_set_trees.specs.checked.Scripts.{Script, IsChecked, names_of}
 use Rattle.operator_meaning.specs.Scripts.{set_in, states, script_wrong}
 use Rattle.operator_meaning.proofs.EmptyLemmas.{script_wrong-empty}
 use Rattle.round_journal.specs.declared.entry.Entry.{Entry}

@@ -2,7 +2,7 @@
 use Rattle.std.proofs.Common.{◌≡◌, ◌≢◌, ◌≤◌, ◌<◌, ◌+◌, ◌-◌, ◌*◌, ℕ, suc, zero, true, false, List, [], ◌∷◌, length, sym, ◌∙◌, ap, refl, arith, inl, inr, subst, length-append}
 use Rattle.std.proofs.lemmas.Bool.{cases_eq}
 use Rattle.point_sets.specs.declared.revision.Revision.{Revision}
-use Rattle.checked_trees.specs.Scripts.{Script}
+use Rattle.data_set_trees.specs.checked.Scripts.{Script}
 use Rattle.operator_meaning.specs.Scripts.{with_at}
 use Rattle.operator_meaning.proofs.ScriptLemmas.{with_at-same, with_at-other}
 use Rattle.round_journal.specs.declared.entry.Entry.{Entry}

@@ -11,7 +11,7 @@ use Rattle.std.proofs.lemmas.List.Sums.{sum_by-append, sum_by_more}
 use Rattle.point_sets.specs.DataSets.{DataSet}
 use Rattle.data_set_trees.specs.declared.tree.Source.{Source}
 use Rattle.data_set_trees.specs.declared.tree.Source.TheVariants.{Input, Result as ResultOf}
-use Rattle.checked_trees.specs.Scripts.{Script, IsChecked, names_of}
+use Rattle.data_set_trees.specs.checked.Scripts.{Script, IsChecked, names_of}
 use Rattle.operator_meaning.specs.Results.{Wrong}
 use Rattle.operator_meaning.specs.Scripts.{State as Value, Fails, Idle, set_in, set_named, states, first_states, points_in, POINTS_LIMIT, ScriptWrong, At, Total, or_total}
 use Rattle.round_journal.specs.declared.entry.What.{What}

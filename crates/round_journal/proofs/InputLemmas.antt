@@ -12,7 +12,7 @@ use Rattle.revision_judge.specs.Judging.{AreInputs as AreJudgedInputs, Judgement
 use Rattle.vtl_values.specs.Structures.{NamedStructures}
 use Rattle.revision_judge.proofs.Judgements.{inputs_after-fit, then-long}
 use Rattle.transform_nodes.specs.Nodes.{AreInputs}
-use Rattle.checked_trees.specs.Scripts.{Script}
+use Rattle.data_set_trees.specs.checked.Scripts.{Script}
 use Rattle.round_journal.specs.declared.entry.Entry.{Entry}
 use Rattle.round_journal.specs.declared.entry.What.{What}
 use Rattle.round_journal.specs.declared.entry.What.TheVariants.{Judged, Opened, Published}

@@ -1,6 +1,6 @@
 -- Journals that go on.
 use Rattle.std.proofs.Common.{◌≡◌, List, [], ◌∷◌, ◌++◌, refl}
-use Rattle.checked_trees.specs.Scripts.{Script}
+use Rattle.data_set_trees.specs.checked.Scripts.{Script}
 use Rattle.round_journal.specs.declared.entry.Entry.{Entry}
 use Rattle.round_journal.specs.Journals.{State, start, after, after_all, state_of, MayCome, LegalFrom, Legal}
 

@@ -2,7 +2,7 @@
 use Rattle.std.proofs.Common.{◌≡◌, ℕ, List, sym, ◌∙◌, ap, refl, arith}
 use Rattle.std.specs.List.{All}
 use Rattle.std.proofs.lemmas.List.Elements.{All-nil, All-push, All-weaker}
-use Rattle.checked_trees.specs.Scripts.{Script, IsChecked}
+use Rattle.data_set_trees.specs.checked.Scripts.{Script, IsChecked}
 use Rattle.round_journal.specs.declared.entry.Entry.{Entry}
 use Rattle.round_journal.specs.declared.entry.What.{What}
 use Rattle.round_journal.specs.declared.entry.What.TheVariants.{Rescripted, Opened, Published}

@@ -6,7 +6,7 @@ use Rattle.point_sets.specs.DataSets.{DataSet}
 use Rattle.point_sets.specs.declared.revision.Revision.{Revision}
 use Rattle.data_set_trees.specs.declared.tree.Source.{Source}
 use Rattle.data_set_trees.specs.declared.tree.Source.TheVariants.{Input, Result as ResultOf}
-use Rattle.checked_trees.specs.Scripts.{Script, IsChecked, FollowOperands, IsOneOf, names_of, sources_of, structure_of_source}
+use Rattle.data_set_trees.specs.checked.Scripts.{Script, IsChecked, FollowOperands, IsOneOf, names_of, sources_of, structure_of_source}
 use Rattle.operator_meaning.proofs.Items.{Contains-nothing}
 use Rattle.transform_nodes.specs.Nodes.{named_on, AllHave}
 use Rattle.std.specs.declared.alloc.Global.{Global}

@@ -8,11 +8,11 @@ use Rattle.std.proofs.lemmas.Bool.{cases_eq}
 use Rattle.std.proofs.lemmas.List.Elements.{All-nil, All-head, All-tail, All-cons, All-push, All-contains, All-weaker, All-filter}
 use Rattle.vtl_values.specs.Structures.{NamedStructures}
 use Rattle.point_sets.specs.DataSets.{DataSet}
-use Rattle.checked_trees.specs.declared.script.CheckedStatement.{CheckedStatement}
+use Rattle.data_set_trees.specs.declared.checked.script.CheckedStatement.{CheckedStatement}
 use Rattle.data_set_trees.specs.declared.tree.Source.{Source}
 use Rattle.data_set_trees.specs.declared.tree.Source.TheVariants.{Input, Result as ResultOf}
-use Rattle.checked_trees.specs.Expressions.{expression_of}
-use Rattle.checked_trees.specs.Scripts.{Script, IsChecked, FollowOperands, IsOneOf, names_in, names_of, once_each, sources_of, structure_of_source}
+use Rattle.data_set_trees.specs.checked.Expressions.{expression_of}
+use Rattle.data_set_trees.specs.checked.Scripts.{Script, IsChecked, FollowOperands, IsOneOf, names_in, names_of, once_each, sources_of, structure_of_source}
 use Rattle.operator_meaning.specs.Results.{Wrong, Evaluated, result_of}
 use Rattle.operator_meaning.specs.Scripts.{State, Has, Fails, Idle, state_of, set_in, set_named, worked_out, states, first_states, all_states, points_in, At, ScriptWrong, first_wrong, or_total, script_wrong}
 use Rattle.operator_meaning.proofs.ScriptLemmas.{names_of-there, in_order, states-fixed}

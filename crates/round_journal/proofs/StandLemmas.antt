@@ -1,7 +1,7 @@
 -- What stands for a journal, and stays so.
 use Rattle.std.proofs.Common.{◌≡◌, ◌≢◌, ◌≤◌, ◌==◌, ℕ, Bool, true, false, if◌then◌else◌, List, [], ◌∷◌, ◌++◌, length, sym, ◌∙◌, refl, arith, subst}
 use Rattle.std.proofs.lemmas.List.Elements.{All-head, All-tail}
-use Rattle.checked_trees.specs.Scripts.{Script}
+use Rattle.data_set_trees.specs.checked.Scripts.{Script}
 use Rattle.operator_meaning.specs.Scripts.{with_at}
 use Rattle.operator_meaning.proofs.ScriptLemmas.{with_at-other}
 use Rattle.point_sets.specs.DataSets.{DataSet}

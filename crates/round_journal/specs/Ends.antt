@@ -1,7 +1,7 @@
 -- What a round ends by (docs/language.md, "Rounds").
 use Rattle.std.specs.Prelude.{◌≡◌, ◌≢◌, ◌<◌, ℕ, List, length, slice_index}
 use Rattle.point_sets.specs.DataSets.{DataSet}
-use Rattle.checked_trees.specs.Scripts.{Script}
+use Rattle.data_set_trees.specs.checked.Scripts.{Script}
 use Rattle.operator_meaning.specs.Results.{Wrong, Evaluated}
 use Rattle.operator_meaning.specs.Scripts.{Has, Fails, states, points_in}
 use Rattle.round_journal.specs.Journals.{State, Back, Spoiled, Over, new_inputs}

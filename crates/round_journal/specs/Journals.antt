@@ -8,7 +8,7 @@ use Rattle.point_sets.specs.declared.revision.Revision.{Revision}
 use Rattle.revision_judge.specs.Judging.{Judgement, Fit, Refused as RefusedFor, judged, inputs_after}
 use Rattle.data_set_trees.specs.declared.tree.Source.{Source}
 use Rattle.data_set_trees.specs.declared.tree.Source.TheVariants.{Input, Result as ResultOf}
-use Rattle.checked_trees.specs.Scripts.{Script, IsChecked, sources_of}
+use Rattle.data_set_trees.specs.checked.Scripts.{Script, IsChecked, sources_of}
 use Rattle.operator_meaning.specs.Scripts.{ScriptWrong, At as StatementWrong, Total as TotalWrong, states, set_in, script_wrong, with_at}
 use Rattle.transform_nodes.specs.Faults.{wrong_of}
 use Rattle.round_journal.specs.declared.entry.Entry.{Entry}

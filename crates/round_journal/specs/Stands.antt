@@ -1,7 +1,7 @@
 -- Which works and dones stand for what a journal says.
 use Rattle.std.specs.Prelude.{◌≡◌, ◌≢◌, ℕ, true, List, ⊤}
 use Rattle.std.specs.List.{All}
-use Rattle.checked_trees.specs.Scripts.{Script}
+use Rattle.data_set_trees.specs.checked.Scripts.{Script}
 use Rattle.transform_nodes.specs.declared.work.Work.{Work}
 use Rattle.transform_nodes.specs.declared.work.DoneParts.{DoneParts}
 use Rattle.transform_nodes.specs.Nodes.{WorkStandsFor, DoneStandsFor}

@@ -5,7 +5,7 @@ ghost use Rattle.std.specs.declared.alloc.Global.{Global};
 ghost use Rattle.point_sets.specs.DataSets.{DataSet};
 ghost use Rattle.point_sets.specs.declared.revision.Revision.{Revision};
 ghost use Rattle.revision_judge.specs.Judging.{AreInputs as AreJudgedInputs, judged, settled};
-ghost use Rattle.checked_trees.specs.Scripts.{Script, IsChecked, sources_of};
+ghost use Rattle.data_set_trees.specs.checked.Scripts.{Script, IsChecked, sources_of};
 ghost use Rattle.operator_meaning.specs.Results.{Wrong};
 ghost use Rattle.operator_meaning.specs.Scripts.{Idle, At, Total, ScriptWrong, POINTS_LIMIT, or_total, states, script_wrong};
 ghost use Rattle.release_text.specs.declared.release.Release.{Release};

@@ -4,20 +4,20 @@ use Rattle.std.proofs.Math.Seq.{take-length}
 use Rattle.std.proofs.lemmas.Bool.Decides.{nat_tests}
 use Rattle.point_sets.specs.declared.revision.Revision.{Revision}
 use Rattle.point_sets.specs.DataSets.{DataSet}
-use Rattle.checked_trees.specs.Scripts.{Script, IsChecked}
+use Rattle.data_set_trees.specs.checked.Scripts.{Script, IsChecked}
 use Rattle.operator_meaning.specs.Scripts.{ScriptWrong, script_wrong}
 use Rattle.release_text.specs.Releases.{Page, release}
 use Rattle.release_text.specs.declared.release.Release.{Release}
 use Rattle.revision_judge.specs.Judging.{inputs_after}
-use Rattle.round_journal.specs.Journals.{State, Named, Numbered, numbered_first, start, after_what, state_of, number, inputs, inputs_now, new_inputs, round_wrong, fault_said, MayCome, Legal}
-use Rattle.round_journal.specs.Releases.{IsRelease, pages_on}
-use Rattle.round_journal.specs.declared.entry.Entry.{Entry}
-use Rattle.round_journal.specs.declared.entry.What.{What}
-use Rattle.round_journal.specs.declared.entry.What.TheVariants.{Opened, Published as PublishedTo, Failed as FailedTo}
-use Rattle.round_journal.specs.declared.verdict.ScriptFault.{ScriptFault}
-use Rattle.round_journal.proofs.JournalLemmas.{LegalFrom-parts}
-use Rattle.round_journal.proofs.InputLemmas.{inputs-all}
-use Rattle.round_journal.proofs.BoundLemmas.{in_bounds-legal}
+use Rattle.round_core.specs.Journals.{State, Named, Numbered, numbered_first, start, after_what, state_of, number, inputs, inputs_now, new_inputs, round_wrong, fault_said, MayCome, Legal}
+use Rattle.round_core.specs.Releases.{IsRelease, pages_on}
+use Rattle.round_core.specs.entry.Entry.{Entry}
+use Rattle.round_core.specs.entry.What.{What}
+use Rattle.round_core.specs.entry.What.TheVariants.{Opened, Published as PublishedTo, Failed as FailedTo}
+use Rattle.round_core.specs.verdict.ScriptFault.{ScriptFault}
+use Rattle.round_core.proofs.JournalLemmas.{LegalFrom-parts}
+use Rattle.round_core.proofs.InputLemmas.{inputs-all}
+use Rattle.round_core.proofs.BoundLemmas.{in_bounds-legal}
 use Rattle.round_core.specs.Answers.{nothing_new, cannot_open}
 use Rattle.round_core.specs.Seen.{Seen, state_in}
 use Rattle.round_core.specs.declared.stops.Given.{Given}

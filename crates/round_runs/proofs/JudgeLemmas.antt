@@ -4,11 +4,11 @@ use Rattle.std.specs.List.{AllZip, sum_by}
 use Rattle.std.proofs.lemmas.Bool.Decides.{nat_tests}
 use Rattle.std.proofs.lemmas.List.Sums.{fold-append, sum-map, sum_by-append}
 use Rattle.point_sets.specs.declared.revision.Revision.{Revision}
-use Rattle.checked_trees.specs.Scripts.{Script, IsChecked}
+use Rattle.data_set_trees.specs.checked.Scripts.{Script, IsChecked}
 use Rattle.revision_judge.specs.Judging.{Judgement, Fit, Refused as RefusedFor, judged, inputs_after}
-use Rattle.round_journal.specs.Journals.{State, fields_of, accepted_after, round_need, verdict_for, verdict_on}
-use Rattle.round_journal.specs.declared.entry.What.TheVariants.{Judged}
-use Rattle.round_journal.specs.declared.verdict.Verdict.{Verdict}
+use Rattle.round_core.specs.Journals.{State, fields_of, accepted_after, round_need, verdict_for, verdict_on}
+use Rattle.round_core.specs.entry.What.TheVariants.{Judged}
+use Rattle.round_core.specs.verdict.Verdict.{Verdict}
 use Rattle.round_core.specs.declared.limits.Limits.{Limits}
 use Rattle.round_core.specs.Answers.{full_for, entries_wanting, fields_wanting}
 use Rattle.round_core.specs.Seen.{Seen, state_in, seen_with}

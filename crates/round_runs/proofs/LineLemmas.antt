@@ -3,7 +3,7 @@ use Rattle.std.proofs.Common.{◌≡◌, ℕ, List, [], codes, None, Result, Ok,
 use Rattle.std.specs.Str.{chars}
 use Rattle.std.specs.Result.{IfOk}
 use Rattle.std.specs.List.{slice_get}
-use Rattle.checked_trees.specs.Scripts.{Script}
+use Rattle.data_set_trees.specs.checked.Scripts.{Script}
 use Rattle.round_runs.specs.Eval.{name_in, name_of}
 
 pub chars-none : chars (codes "") ≡ []

@@ -1,7 +1,7 @@
 -- Rounds that are opened.
 use Rattle.std.proofs.Common.{◌≡◌, ◌==◌, ◌≢◌, ◌⊎◌, ◌↔◌, ◌≤◌, ◌<◌, ◌+◌, ◌*◌, ℕ, Bool, true, false, cond, List, [], ◌∷◌, length, Option, Some, None, Result, Ok, Err, refl, ap, ◌∙◌, arith, inl, inr, ⊎_elim}
 use Rattle.std.proofs.lemmas.Bool.Decides.{nat_tests}
-use Rattle.round_journal.specs.Journals.{round_need}
+use Rattle.round_core.specs.Journals.{round_need}
 use Rattle.round_core.specs.declared.limits.Full.{Full}
 use Rattle.round_core.specs.declared.stops.OpenStop.{OpenStop}
 use Rattle.round_core.specs.declared.stops.OpenStop.TheVariants as stop

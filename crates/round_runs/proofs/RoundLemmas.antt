@@ -3,23 +3,23 @@ use Rattle.std.proofs.Common.{◌≡◌, ◌==◌, ◌≢◌, ◌⊎◌, ◌↔�
 use Rattle.std.specs.List.{All}
 use Rattle.std.proofs.lemmas.Bool.Decides.{nat_tests}
 use Rattle.std.proofs.lemmas.List.Elements.{All-append, All-cons, All-nil}
-use Rattle.checked_trees.specs.Scripts.{Script}
-use Rattle.checked_trees.specs.declared.script.CheckedStatement.{CheckedStatement}
+use Rattle.data_set_trees.specs.checked.Scripts.{Script}
+use Rattle.data_set_trees.specs.declared.checked.script.CheckedStatement.{CheckedStatement}
 use Rattle.operator_meaning.specs.Scripts.{with_at}
-use Rattle.transform_nodes.specs.declared.work.Work.{Work}
-use Rattle.transform_nodes.specs.declared.work.DoneParts.{DoneParts}
-use Rattle.transform_nodes.specs.declared.work.Finish.{Finish}
-use Rattle.transform_nodes.specs.declared.work.Finish.TheVariants as finish
-use Rattle.transform_nodes.specs.Nodes.{CanRun, WorkStandsFor, DoneStandsFor}
+use Rattle.round_core.specs.work.Work.{Work}
+use Rattle.round_core.specs.work.DoneParts.{DoneParts}
+use Rattle.round_core.specs.work.Finish.{Finish}
+use Rattle.round_core.specs.work.Finish.TheVariants as finish
+use Rattle.round_core.specs.Nodes.{CanRun, WorkStandsFor, DoneStandsFor}
 use Rattle.point_sets.specs.DataSets.{DataSet}
-use Rattle.round_journal.specs.Journals.{State, Named, Status, Out, Back, Spoiled, after_what, number, inputs, NoneOut, NoneReady, Over}
-use Rattle.round_journal.specs.Stands.{WorkStands, DoneStands}
-use Rattle.round_journal.specs.Counts.{IsOfStatement}
-use Rattle.round_journal.specs.declared.entry.Entry.{Entry}
-use Rattle.round_journal.specs.declared.entry.What.{What}
-use Rattle.round_journal.specs.declared.entry.What.TheVariants.{Opened, Claimed, Returned, GaveUp, Published as PublishedTo, Failed as FailedTo, Dropped as DroppedTo}
-use Rattle.round_journal.specs.declared.verdict.ScriptFault.{ScriptFault}
-use Rattle.round_journal.proofs.JournalLemmas.{state_of-more}
+use Rattle.round_core.specs.Journals.{State, Named, Status, Out, Back, Spoiled, after_what, number, inputs, NoneOut, NoneReady, Over}
+use Rattle.round_core.specs.Stands.{WorkStands, DoneStands}
+use Rattle.round_core.specs.Counts.{IsOfStatement}
+use Rattle.round_core.specs.entry.Entry.{Entry}
+use Rattle.round_core.specs.entry.What.{What}
+use Rattle.round_core.specs.entry.What.TheVariants.{Opened, Claimed, Returned, GaveUp, Published as PublishedTo, Failed as FailedTo, Dropped as DroppedTo}
+use Rattle.round_core.specs.verdict.ScriptFault.{ScriptFault}
+use Rattle.round_core.proofs.JournalLemmas.{state_of-more}
 use Rattle.round_core.specs.declared.stops.ClaimStop.{ClaimStop}
 use Rattle.round_core.specs.declared.stops.ClaimStop.TheVariants.{NoRound, NoneReady as NothingReady}
 use Rattle.round_core.specs.declared.stops.Given.TheVariants as given

@@ -1,15 +1,15 @@
 -- What `eval` writes for the revisions of its feed (docs/formats.md, "Output").
 use Rattle.std.specs.Prelude.{ℕ, ◌+◌, List, [], ◌∷◌, ◌++◌, Option, Some, None, fold, length, slice_get}
 use Rattle.point_sets.specs.declared.revision.Revision.{Revision}
-use Rattle.checked_trees.specs.declared.script.CheckedStatement.{CheckedStatement}
-use Rattle.checked_trees.specs.Scripts.{Script}
+use Rattle.data_set_trees.specs.declared.checked.script.CheckedStatement.{CheckedStatement}
+use Rattle.data_set_trees.specs.checked.Scripts.{Script}
 use Rattle.operator_meaning.specs.Results.{Wrong, RangeAt, ManyAt}
 use Rattle.operator_meaning.specs.Scripts.{ScriptWrong, At, Total, script_wrong}
 use Rattle.release_text.specs.Releases.{release}
 use Rattle.revision_judge.specs.Judging.{judged, inputs_after}
-use Rattle.round_journal.specs.Journals.{accepted_after, verdict_for}
-use Rattle.round_journal.specs.Releases.{pages_on}
-use Rattle.round_journal.specs.declared.verdict.Verdict.{Verdict}
+use Rattle.round_core.specs.Journals.{accepted_after, verdict_for}
+use Rattle.round_core.specs.Releases.{pages_on}
+use Rattle.round_core.specs.verdict.Verdict.{Verdict}
 use Rattle.round_runs.specs.Answers.{Answer}
 use Rattle.round_runs.specs.Lines.{verdict_line, failed_at, range_key, too_many_points, total_points}
 

@@ -6,8 +6,8 @@ use Rattle.release_text.specs.Rows.{row}
 use Rattle.revision_judge.specs.Causes.{number_of_cause}
 use Rattle.revision_judge.specs.Fields.{text_in}
 use Rattle.revision_judge.specs.declared.ruling.Refusal.{Refusal}
-use Rattle.round_journal.specs.declared.verdict.Verdict.{Verdict}
-use Rattle.round_journal.specs.declared.verdict.Verdict.TheVariants.{Accepted, Refused}
+use Rattle.round_core.specs.verdict.Verdict.{Verdict}
+use Rattle.round_core.specs.verdict.Verdict.TheVariants.{Accepted, Refused}
 use Rattle.vtl_values.specs.declared.value.Value.{Value}
 use Rattle.release_text.specs.Tables.{values_row}
 

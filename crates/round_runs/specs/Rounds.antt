@@ -1,12 +1,12 @@
 -- Rounds that one caller runs alone.
 use Rattle.std.specs.Prelude.{◌≡◌, ◌≤◌, ◌<◌, ◌+◌, ◌⊎◌, ℕ, true, false, List, [], ◌++◌, Option, Some, None, length, ⊤}
 use Rattle.std.specs.List.{All}
-use Rattle.round_journal.specs.Journals.{State, number, NoneOut, Over, fault_said}
-use Rattle.round_journal.specs.Counts.{IsOfStatement}
-use Rattle.round_journal.specs.declared.entry.Entry.{Entry}
-use Rattle.round_journal.specs.declared.entry.What.{What}
-use Rattle.round_journal.specs.declared.entry.What.TheVariants.{Judged, Rescripted, Opened, Claimed, Returned, GaveUp, Published as PublishedTo, Failed as FailedTo, Dropped as DroppedTo}
-use Rattle.round_journal.specs.declared.verdict.ScriptFault.{ScriptFault}
+use Rattle.round_core.specs.Journals.{State, number, NoneOut, Over, fault_said}
+use Rattle.round_core.specs.Counts.{IsOfStatement}
+use Rattle.round_core.specs.entry.Entry.{Entry}
+use Rattle.round_core.specs.entry.What.{What}
+use Rattle.round_core.specs.entry.What.TheVariants.{Judged, Rescripted, Opened, Claimed, Returned, GaveUp, Published as PublishedTo, Failed as FailedTo, Dropped as DroppedTo}
+use Rattle.round_core.specs.verdict.ScriptFault.{ScriptFault}
 use Rattle.round_core.specs.declared.stops.Given.{Given}
 use Rattle.round_core.specs.declared.stops.Given.TheVariants.{Counted, Published, Failed, Dropped}
 use Rattle.round_core.specs.declared.stops.OpenStop.{OpenStop}

@@ -2,18 +2,18 @@
 use Rattle.std.specs.Prelude.{◌≡◌, ◌≤◌, ℕ, true, false, List, [], ◌∷◌, ◌++◌, map, sum, length, Option, Some, None}
 use Rattle.std.specs.List.{All, AllZip}
 use Rattle.point_sets.specs.declared.revision.Revision.{Revision}
-use Rattle.checked_trees.specs.Scripts.{Script}
+use Rattle.data_set_trees.specs.checked.Scripts.{Script}
 use Rattle.release_text.specs.Releases.{release}
 use Rattle.release_text.specs.declared.release.Release.{Release}
 use Rattle.operator_meaning.specs.Scripts.{ScriptWrong, script_wrong}
-use Rattle.round_journal.specs.Journals.{State, Legal, numbered_first, inputs_now, fields_of, verdict_on, fault_said}
+use Rattle.round_core.specs.Journals.{State, Legal, numbered_first, inputs_now, fields_of, verdict_on, fault_said}
 use Rattle.round_core.specs.Answers.{nothing_new}
-use Rattle.round_journal.specs.Releases.{IsRelease}
-use Rattle.round_journal.specs.declared.entry.Entry.{Entry}
-use Rattle.round_journal.specs.declared.entry.What.{What}
-use Rattle.round_journal.specs.declared.entry.What.TheVariants.{Judged, Rescripted, Opened, Claimed, Returned, GaveUp, Published, Failed, Dropped}
-use Rattle.round_journal.specs.declared.verdict.Verdict.{Verdict}
-use Rattle.round_journal.specs.declared.verdict.Verdict.TheVariants.{Accepted, Refused}
+use Rattle.round_core.specs.Releases.{IsRelease}
+use Rattle.round_core.specs.entry.Entry.{Entry}
+use Rattle.round_core.specs.entry.What.{What}
+use Rattle.round_core.specs.entry.What.TheVariants.{Judged, Rescripted, Opened, Claimed, Returned, GaveUp, Published, Failed, Dropped}
+use Rattle.round_core.specs.verdict.Verdict.{Verdict}
+use Rattle.round_core.specs.verdict.Verdict.TheVariants.{Accepted, Refused}
 use Rattle.round_core.specs.declared.limits.Limits.{Limits}
 use Rattle.round_core.specs.declared.limits.TheConstants.{ENTRY_LIMIT, FIELD_LIMIT, SCRIPT_LIMIT}
 use Rattle.round_core.specs.Seen.{Seen, state_in, seen_with}

@@ -8,3 +8,5 @@
 pub mod eval;
 pub mod lines;
 pub mod round;
+
+pub use round_core::Production;

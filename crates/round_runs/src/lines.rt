@@ -2,8 +2,8 @@
 ghost use Rattle.std.specs.Prelude.{◌≡◌, ◌++◌, [], ◌∷◌, map, string_bytes, IfOk};
 ghost use Rattle.std.specs.Ffi.{without_last};
 ghost use Rattle.operator_meaning.specs.Scripts.{ScriptWrong};
-ghost use Rattle.transform_nodes.specs.Faults.{wrong_of};
-ghost use Rattle.round_journal.specs.Journals.{fault_said};
+ghost use Rattle.round_core.specs.Faults.{wrong_of};
+ghost use Rattle.round_core.specs.Journals.{fault_said};
 ghost use Rattle.revision_judge.specs.Fields.{text_in};
 ghost use Rattle.round_runs.specs.Eval.{failed_line, name_of, wrong_line};
 ghost use Rattle.round_runs.specs.Lines as meant;
@@ -13,9 +13,8 @@ use built_scripts::CheckedScript;
 use point_sets::{Key, RawField};
 use release_text::{values_row, words_row};
 use revision_judge::Refusal;
-use round_journal::{ScriptFault, Verdict};
+use round_core::{NodeFault, ScriptFault, Verdict};
 use std::alloc::{AllocError, Global};
-use transform_nodes::NodeFault;
 use vtl_values::{Place, Word};
 
 /// The line of a verdict.

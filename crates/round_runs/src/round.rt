@@ -5,8 +5,7 @@ ghost use Rattle.round_core.specs.Seen.{Seen, state_in, opened};
 ghost use Rattle.round_runs.specs.Rounds.{IsOpen, IsOpened, GivesNext, RunsRound, RunsWhole, newly_open, end_given, not_opened};
 
 use data_model::steps::Steps;
-use round_core::{Full, Given, OpenStop, Production};
-use round_journal::ScriptFault;
+use round_core::{Full, Given, OpenStop, Production, ScriptFault};
 use std::alloc::Global;
 use std::marker::{Brand, Sync};
 use std::sync::ledger::{Blank, Ledger};

@@ -6,10 +6,10 @@ use Rattle.std.proofs.lemmas.List.{take_more}
 use Rattle.std.proofs.lemmas.List.Elements.{filter_map-append}
 use Rattle.std.proofs.lemmas.List.Folds.{list_any-append}
 use Rattle.vtl_values.specs.declared.place.Place.{Place}
-use Rattle.typing_rules.specs.declared.stop.Fault.{Fault}
-use Rattle.typing_rules.specs.declared.stop.Fault.TheVariants as fault
-use Rattle.typing_rules.specs.Steps.{◌>>=◌}
-use Rattle.rule_trees.specs.Rules.{all_faults, fault_number, first_fault, is_among, unmet, value_or}
+use Rattle.scalar_trees.specs.declared.typing.stop.Fault.{Fault}
+use Rattle.scalar_trees.specs.declared.typing.stop.Fault.TheVariants as fault
+use Rattle.scalar_trees.specs.typing.Steps.{◌>>=◌}
+use Rattle.data_set_trees.specs.rules.Rules.{all_faults, fault_number, first_fault, is_among, unmet, value_or}
 use Rattle.rule_typing.specs.Faults.{earlier, first_of}
 
 -- ---- two faults

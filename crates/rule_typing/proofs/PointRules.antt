@@ -2,10 +2,10 @@
 use Rattle.std.proofs.Common.{◌≡◌, ℕ, List, [], ◌∷◌, ◌++◌, Option, Result, Ok, Err, sym, ◌∙◌}
 use Rattle.std.specs.Result.{result_err}
 use Rattle.scalar_trees.specs.declared.tree.CheckedExpr.{CheckedExpr}
-use Rattle.typing_rules.specs.declared.stop.Fault.{Fault}
-use Rattle.typing_rules.specs.declared.stop.Refusal.{Refusal}
-use Rattle.rule_trees.specs.declared.rules.RuleError.{RuleError}
-use Rattle.rule_trees.specs.Rules.{fault_in, first_fault}
+use Rattle.scalar_trees.specs.declared.typing.stop.Fault.{Fault}
+use Rattle.scalar_trees.specs.declared.typing.stop.Refusal.{Refusal}
+use Rattle.data_set_trees.specs.declared.rules.rules.RuleError.{RuleError}
+use Rattle.data_set_trees.specs.rules.Rules.{fault_in, first_fault}
 use Rattle.rule_typing.specs.Faults.{Tells, earlier}
 use Rattle.rule_typing.specs.PointRules.{point_rule}
 use Rattle.rule_typing.proofs.FirstFaults.{first_fault-append, first_fault-single}

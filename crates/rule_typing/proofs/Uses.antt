@@ -8,22 +8,22 @@ use Rattle.vtl_syntax.specs.declared.ruleset.HierarchyRules.{HierarchyRules}
 use Rattle.vtl_syntax.specs.declared.words.Mode.{Mode}
 use Rattle.vtl_syntax.specs.declared.words.RowsOutput.{RowsOutput}
 use Rattle.vtl_syntax.specs.declared.words.RowsOutput.TheVariants.{Invalid}
-use Rattle.typing_rules.specs.declared.stop.Fault.{Fault}
-use Rattle.typing_rules.specs.declared.stop.Fault.TheVariants.{UnknownComponent, NameTwice, TooManyComponents}
-use Rattle.typing_rules.specs.declared.stop.Refusal.{Refusal}
-use Rattle.typing_rules.specs.declared.stop.TypeStop.{TypeStop}
-use Rattle.typing_rules.specs.Steps.{◌>>=◌, Refuses, demanded, or_refused}
+use Rattle.scalar_trees.specs.declared.typing.stop.Fault.{Fault}
+use Rattle.scalar_trees.specs.declared.typing.stop.Fault.TheVariants.{UnknownComponent, NameTwice, TooManyComponents}
+use Rattle.scalar_trees.specs.declared.typing.stop.Refusal.{Refusal}
+use Rattle.scalar_trees.specs.declared.typing.stop.TypeStop.{TypeStop}
+use Rattle.scalar_trees.specs.typing.Steps.{◌>>=◌, Refuses, demanded, or_refused}
 use Rattle.operator_typing.proofs.Steps.{fails_after, fails_there, goes_on, passed_on, stops_same, stops_there}
-use Rattle.clause_trees.specs.declared.frame.Frame.{Frame}
-use Rattle.clause_trees.specs.Clauses.{bare_number_of}
-use Rattle.clause_trees.specs.Frames.{frame_of}
-use Rattle.aggregate_trees.specs.Aggregates.{has_room, names_differ}
-use Rattle.rule_trees.specs.declared.rules.CheckedDatapoint.{CheckedDatapoint}
-use Rattle.rule_trees.specs.declared.rules.CheckedHierarchy.{CheckedHierarchy}
-use Rattle.rule_trees.specs.declared.rules.HierarchyContent.{HierarchyContent}
-use Rattle.rule_trees.specs.Datapoints.{datapoint_checked, rule_faults, rules_typed, unordered}
-use Rattle.rule_trees.specs.Hierarchies.{condition_faults, content_of, demands_of, hierarchy_checked, variables_of}
-use Rattle.rule_trees.specs.Rules.{are_known, first_fault, scope_of_rules, unless_faulty, unmet, value_or}
+use Rattle.data_set_trees.specs.declared.clauses.frame.Frame.{Frame}
+use Rattle.data_set_trees.specs.clauses.Clauses.{bare_number_of}
+use Rattle.data_set_trees.specs.clauses.Frames.{frame_of}
+use Rattle.data_set_trees.specs.aggregates.Aggregates.{has_room, names_differ}
+use Rattle.data_set_trees.specs.declared.rules.rules.CheckedDatapoint.{CheckedDatapoint}
+use Rattle.data_set_trees.specs.declared.rules.rules.CheckedHierarchy.{CheckedHierarchy}
+use Rattle.data_set_trees.specs.declared.rules.rules.HierarchyContent.{HierarchyContent}
+use Rattle.data_set_trees.specs.rules.Datapoints.{datapoint_checked, rule_faults, rules_typed, unordered}
+use Rattle.data_set_trees.specs.rules.Hierarchies.{condition_faults, content_of, demands_of, hierarchy_checked, variables_of}
+use Rattle.data_set_trees.specs.rules.Rules.{are_known, first_fault, scope_of_rules, unless_faulty, unmet, value_or}
 use Rattle.rule_typing.specs.Content.{content_checked, fault_of}
 use Rattle.rule_typing.specs.Faults.{earlier, unless_found}
 use Rattle.rule_typing.proofs.FirstFaults.{first_fault-append, unmet-append, value_or-after}

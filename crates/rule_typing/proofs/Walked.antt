@@ -4,10 +4,10 @@ use Rattle.std.specs.List.{cons_option, filter_map, flat_map, range_with_len, zi
 use Rattle.std.proofs.lemmas.Grind.{flat_map-append}
 use Rattle.std.proofs.lemmas.List.{append-nil, length-take-le, take_all, take_more}
 use Rattle.std.proofs.lemmas.List.Elements.{filter_map-append}
-use Rattle.typing_rules.specs.declared.stop.Fault.{Fault}
-use Rattle.typing_rules.specs.declared.stop.Refusal.{Refusal}
-use Rattle.rule_trees.specs.Datapoints.{numbered}
-use Rattle.rule_trees.specs.Rules.{first_fault, given}
+use Rattle.scalar_trees.specs.declared.typing.stop.Fault.{Fault}
+use Rattle.scalar_trees.specs.declared.typing.stop.Refusal.{Refusal}
+use Rattle.data_set_trees.specs.rules.Datapoints.{numbered}
+use Rattle.data_set_trees.specs.rules.Rules.{first_fault, given}
 use Rattle.rule_typing.specs.Faults.{earlier}
 use Rattle.rule_typing.proofs.FirstFaults.{earlier-none, first_fault-append}
 

@@ -4,15 +4,15 @@ use Rattle.vtl_values.specs.declared.place.Place.{Place}
 use Rattle.vtl_values.specs.declared.structure.Component.{Component}
 use Rattle.vtl_syntax.specs.declared.ruleset.HierarchyRules.{HierarchyRules}
 use Rattle.vtl_syntax.specs.declared.words.Mode.{Mode}
-use Rattle.typing_rules.specs.declared.stop.Fault.{Fault}
-use Rattle.typing_rules.specs.declared.stop.Fault.TheVariants.{UnknownComponent}
-use Rattle.typing_rules.specs.declared.stop.Refusal.{Refusal}
-use Rattle.typing_rules.specs.Steps.{◌>>=◌, demanded, or_refused}
-use Rattle.clause_trees.specs.Clauses.{bare_number_of}
-use Rattle.clause_trees.specs.Frames.{frame_of}
-use Rattle.rule_trees.specs.declared.rules.HierarchyContent.{HierarchyContent}
-use Rattle.rule_trees.specs.Hierarchies.{condition_faults, content_of, demands_of, variables_of}
-use Rattle.rule_trees.specs.Rules.{are_known, first_fault, unmet, value_or}
+use Rattle.scalar_trees.specs.declared.typing.stop.Fault.{Fault}
+use Rattle.scalar_trees.specs.declared.typing.stop.Fault.TheVariants.{UnknownComponent}
+use Rattle.scalar_trees.specs.declared.typing.stop.Refusal.{Refusal}
+use Rattle.scalar_trees.specs.typing.Steps.{◌>>=◌, demanded, or_refused}
+use Rattle.data_set_trees.specs.clauses.Clauses.{bare_number_of}
+use Rattle.data_set_trees.specs.clauses.Frames.{frame_of}
+use Rattle.data_set_trees.specs.declared.rules.rules.HierarchyContent.{HierarchyContent}
+use Rattle.data_set_trees.specs.rules.Hierarchies.{condition_faults, content_of, demands_of, variables_of}
+use Rattle.data_set_trees.specs.rules.Rules.{are_known, first_fault, unmet, value_or}
 use Rattle.rule_typing.specs.Faults.{earlier}
 
 -- the first fault of a use whose items are in the component of this number

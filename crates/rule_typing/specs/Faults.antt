@@ -1,9 +1,9 @@
 -- Faults that are told together.
 use Rattle.std.specs.Prelude.{◌≡◌, [], ◌∷◌, nat_le, Option, Some, None, Result, Ok, Err, if◌then◌else◌}
 use Rattle.vtl_values.specs.declared.place.Place.{Place}
-use Rattle.typing_rules.specs.declared.stop.Fault.{Fault}
-use Rattle.typing_rules.specs.declared.stop.Refusal.{Refusal}
-use Rattle.rule_trees.specs.Rules.{fault_in, fault_number, value_or}
+use Rattle.scalar_trees.specs.declared.typing.stop.Fault.{Fault}
+use Rattle.scalar_trees.specs.declared.typing.stop.Refusal.{Refusal}
+use Rattle.data_set_trees.specs.rules.Rules.{fault_in, fault_number, value_or}
 
 -- the first of two in the order of faults
 abbrev pub first_of : Fault → Fault → Fault

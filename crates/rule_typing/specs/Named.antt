@@ -4,13 +4,13 @@ use Rattle.std.specs.List.{list_all}
 use Rattle.std.specs.Option.{option_map_or}
 use Rattle.vtl_values.specs.declared.kind.Role.TheVariants.{Identifier}
 use Rattle.vtl_syntax.specs.declared.ruleset.Variable.{Variable}
-use Rattle.typing_rules.specs.declared.scope.Scope.{Scope}
-use Rattle.typing_rules.specs.declared.scope.ScopeName.{ScopeName}
-use Rattle.typing_rules.specs.Scopes.{column_of}
-use Rattle.clause_trees.specs.declared.frame.Frame.{Frame}
-use Rattle.clause_trees.specs.Clauses.{bare_number_of, passes_at}
-use Rattle.clause_trees.specs.Frames.{bare, has_role}
-use Rattle.rule_trees.specs.Rules.{name_in_rules}
+use Rattle.scalar_trees.specs.declared.typing.scope.Scope.{Scope}
+use Rattle.scalar_trees.specs.declared.typing.scope.ScopeName.{ScopeName}
+use Rattle.scalar_trees.specs.typing.Scopes.{column_of}
+use Rattle.data_set_trees.specs.declared.clauses.frame.Frame.{Frame}
+use Rattle.data_set_trees.specs.clauses.Clauses.{bare_number_of, passes_at}
+use Rattle.data_set_trees.specs.clauses.Frames.{bare, has_role}
+use Rattle.data_set_trees.specs.rules.Rules.{name_in_rules}
 
 abbrev pub variable_on : Frame → Variable → Option ScopeName
 variable_on frame v = option_map (bare (name_in_rules v)) (bare_number_of frame v.name)

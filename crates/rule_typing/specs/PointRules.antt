@@ -1,9 +1,9 @@
 -- A rule of a datapoint ruleset, from its parts.
 use Rattle.std.specs.Prelude.{ℕ, List, Option, Result, Ok, Err}
 use Rattle.scalar_trees.specs.declared.tree.CheckedExpr.{CheckedExpr}
-use Rattle.typing_rules.specs.declared.stop.Fault.{Fault}
-use Rattle.rule_trees.specs.declared.rules.PointRule.{PointRule}
-use Rattle.rule_trees.specs.declared.rules.RuleError.{RuleError}
+use Rattle.scalar_trees.specs.declared.typing.stop.Fault.{Fault}
+use Rattle.data_set_trees.specs.declared.rules.rules.PointRule.{PointRule}
+use Rattle.data_set_trees.specs.declared.rules.rules.RuleError.{RuleError}
 use Rattle.rule_typing.specs.Faults.{first_of}
 
 -- the rule, or the first of its faults

@@ -1,14 +1,14 @@
 // Expressions in rules, which are booleans.
 ghost use Rattle.std.specs.Prelude.{◌≡◌, Ok, IfOk, IfErr};
-ghost use Rattle.typing_rules.specs.Steps.{Refuses};
-ghost use Rattle.rule_trees.specs.Rules as meant;
+ghost use Rattle.scalar_trees.specs.typing.Steps.{Refuses};
+ghost use Rattle.data_set_trees.specs.rules.Rules as meant;
 ghost use Rattle.rule_typing.specs.Faults.{Tells};
 
 use component_typing::check_operand;
 use operator_typing::wanted;
 use scalar_trees::CheckedExpr;
+use scalar_trees::typing::{Basis, Fault, Scope, TypeStop};
 use std::alloc::{AllocError, Global};
-use typing_rules::{Basis, Fault, Scope, TypeStop};
 use vtl_syntax::Expr;
 use vtl_values::{Kind, Place};
 

@@ -1,22 +1,22 @@
 // `check_datapoint`.
 ghost use Rattle.std.specs.Prelude.{◌≡◌, [], ◌∷◌, unwrap_or, Ok, IfOk, IfErr};
 ghost use Rattle.vtl_values.specs.Structures.{IsStructure};
-ghost use Rattle.typing_rules.specs.Steps.{Refuses};
-ghost use Rattle.typing_rules.specs.declared.stop.Fault.TheVariants.{NameTwice, TooManyComponents};
-ghost use Rattle.aggregate_trees.specs.Aggregates as asked;
-ghost use Rattle.rule_trees.specs.Rules as told;
-ghost use Rattle.rule_trees.specs.Datapoints as meant;
+ghost use Rattle.scalar_trees.specs.typing.Steps.{Refuses};
+ghost use Rattle.scalar_trees.specs.declared.typing.stop.Fault.TheVariants.{NameTwice, TooManyComponents};
+ghost use Rattle.data_set_trees.specs.aggregates.Aggregates as asked;
+ghost use Rattle.data_set_trees.specs.rules.Rules as told;
+ghost use Rattle.data_set_trees.specs.rules.Datapoints as meant;
 
 use crate::faults::{earlier, unless_faulty};
 use crate::names::{are_known, scope_of_rules};
 use crate::point_rules::rules_checked;
 use crate::rows::{point_rows, unmet_of_rows};
 use clause_typing::frame_of;
+use data_set_trees::rules::CheckedDatapoint;
 use result_components::by_role;
-use rule_trees::CheckedDatapoint;
+use scalar_trees::typing::{Fault, TypeStop, demand};
 use sqlite_items::Items;
 use std::alloc::{AllocError, Global};
-use typing_rules::{Fault, TypeStop, demand};
 use vtl_syntax::ruleset::DatapointRules;
 use vtl_syntax::words::RowsOutput;
 use vtl_values::{Component, Place};

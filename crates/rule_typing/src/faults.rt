@@ -1,10 +1,10 @@
 // Faults that are told together.
 ghost use Rattle.std.specs.Prelude.{◌≡◌, Ok, IfOk, IfErr};
-ghost use Rattle.typing_rules.specs.Steps.{Refuses};
-ghost use Rattle.rule_trees.specs.Rules as meant;
+ghost use Rattle.scalar_trees.specs.typing.Steps.{Refuses};
+ghost use Rattle.data_set_trees.specs.rules.Rules as meant;
 ghost use Rattle.rule_typing.specs.Faults as parts;
 
-use typing_rules::{Fault, TypeStop};
+use scalar_trees::typing::{Fault, TypeStop};
 use vtl_values::Place;
 
 /// The place of a fault in their order.

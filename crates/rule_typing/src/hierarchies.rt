@@ -1,17 +1,17 @@
 // `hierarchy` and `check_hierarchy`.
 ghost use Rattle.std.specs.Prelude.{◌≡◌, Ok, IfOk, IfErr};
 ghost use Rattle.vtl_values.specs.Structures.{IsStructure};
-ghost use Rattle.typing_rules.specs.Steps.{Refuses};
-ghost use Rattle.rule_trees.specs.Rules as told;
-ghost use Rattle.rule_trees.specs.Hierarchies as meant;
+ghost use Rattle.scalar_trees.specs.typing.Steps.{Refuses};
+ghost use Rattle.data_set_trees.specs.rules.Rules as told;
+ghost use Rattle.data_set_trees.specs.rules.Hierarchies as meant;
 
 use crate::content::content_typed;
 use crate::rows::{hierarchy_rows, unmet_of_rows, without_attributes};
+use data_set_trees::rules::CheckedHierarchy;
 use result_components::by_role;
-use rule_trees::CheckedHierarchy;
+use scalar_trees::typing::{Fault, TypeStop};
 use sqlite_items::Items;
 use std::alloc::{AllocError, Global};
-use typing_rules::{Fault, TypeStop};
 use vtl_syntax::ruleset::HierarchyRules;
 use vtl_syntax::words::{CheckInput, HierarchyInput, HierarchyOutput, Mode, RowsOutput};
 use vtl_values::{Component, Place, Word};

@@ -2,16 +2,16 @@
 ghost use Rattle.std.specs.Prelude.{◌≡◌, ◌∷◌, flat_map, map, unwrap_or, IfOk};
 ghost use Rattle.std.specs.Result.{result_ok, result_err};
 ghost use Rattle.vtl_syntax.specs.declared.words.Sign.TheVariants.{Plus};
-ghost use Rattle.rule_trees.specs.Rules as told;
-ghost use Rattle.rule_trees.specs.Hierarchies as meant;
+ghost use Rattle.data_set_trees.specs.rules.Rules as told;
+ghost use Rattle.data_set_trees.specs.rules.Hierarchies as meant;
 
 use crate::conditions::condition_checked;
 use crate::faults::earlier;
 use crate::told::{error_of, rule_name};
-use rule_trees::{ItemRule, SignedItem};
+use data_set_trees::rules::{ItemRule, SignedItem};
+use scalar_trees::typing::{Fault, Scope};
 use sqlite_items::Items;
 use std::alloc::{AllocError, Global};
-use typing_rules::{Fault, Scope};
 use vtl_syntax::ruleset::{HierarchyRule, SignedName};
 use vtl_syntax::words::Sign;
 use vtl_values::Place;

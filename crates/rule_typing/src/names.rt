@@ -1,14 +1,14 @@
 // What names in rules stand for.
 ghost use Rattle.std.specs.Prelude.{◌≡◌, filter_map, IfOk};
-ghost use Rattle.rule_trees.specs.Rules as meant;
+ghost use Rattle.data_set_trees.specs.rules.Rules as meant;
 ghost use Rattle.rule_typing.specs.Named as parts;
 
-use clause_trees::Frame;
 use clause_typing::bare_number_of;
+use data_set_trees::clauses::Frame;
 use operator_typing::scope_of;
+use scalar_trees::typing::{Scope, ScopeName};
 use sqlite_items::Items;
 use std::alloc::{AllocError, Global};
-use typing_rules::{Scope, ScopeName};
 use vtl_syntax::ruleset::Variable;
 use vtl_values::Word;
 

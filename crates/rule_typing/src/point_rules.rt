@@ -1,18 +1,18 @@
 // Rules of datapoint rulesets.
 ghost use Rattle.std.specs.Prelude.{◌≡◌, flat_map, IfOk};
 ghost use Rattle.std.specs.Result.{result_ok, result_err};
-ghost use Rattle.rule_trees.specs.Rules as told;
-ghost use Rattle.rule_trees.specs.Datapoints as meant;
+ghost use Rattle.data_set_trees.specs.rules.Rules as told;
+ghost use Rattle.data_set_trees.specs.rules.Datapoints as meant;
 ghost use Rattle.rule_typing.specs.PointRules as parts;
 
 use crate::conditions::{boolean_checked, condition_checked};
 use crate::faults::{earlier, first_of};
 use crate::told::{error_of, rule_name};
-use rule_trees::{PointRule, RuleError};
+use data_set_trees::rules::{PointRule, RuleError};
 use scalar_trees::CheckedExpr;
+use scalar_trees::typing::{Fault, Scope};
 use sqlite_items::Items;
 use std::alloc::{AllocError, Global};
-use typing_rules::{Fault, Scope};
 use vtl_syntax::ruleset::DatapointRule;
 use vtl_values::{Place, Word};
 

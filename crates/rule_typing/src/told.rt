@@ -1,8 +1,8 @@
 // What is told of a rule.
 ghost use Rattle.std.specs.Prelude.{◌≡◌, decimal, IfOk};
-ghost use Rattle.rule_trees.specs.Rules as meant;
+ghost use Rattle.data_set_trees.specs.rules.Rules as meant;
 
-use rule_trees::RuleError;
+use data_set_trees::rules::RuleError;
 use std::alloc::{AllocError, Global};
 use vtl_syntax::ruleset::FaultPart;
 use vtl_values::Word;

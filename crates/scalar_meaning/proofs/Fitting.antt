@@ -8,7 +8,7 @@ use Rattle.vtl_values.specs.declared.kind.Kind.TheVariants as kind
 use Rattle.vtl_values.specs.declared.value.Value.{Value}
 use Rattle.vtl_values.specs.declared.value.Value.TheVariants.{Null, Truth, Integer, Number, Text}
 use Rattle.scalar_trees.specs.WellTyped.{fits}
-use Rattle.typing_rules.proofs.Sound.{both, left}
+use Rattle.scalar_trees.proofs.typing.Sound.{both, left}
 
 abbrev pub Passes : Kind → Value → Type 0
 Passes k v = fits k v ≡ true

@@ -13,10 +13,10 @@ use Rattle.scalar_trees.specs.declared.tree.CheckedExpr.TheOpen.{CheckedExpr-F}
 use Rattle.scalar_trees.specs.Kinds.{ANY, unary_takes, unary_gives, binary_takes, binary_gives, aggregate_takes, aggregate_gives, round_gives, sort_takes, number_value}
 use Rattle.scalar_trees.specs.WellTyped.{Kinds, is_kind, is_some_kind, is_of_set, fits, digits_fit, given, same, truth, typed_step}
 use Rattle.vtl_syntax.specs.declared.words.AggregateFunction.{AggregateFunction}
-use Rattle.typing_rules.specs.declared.scope.Basis.TheVariants.{Point}
-use Rattle.typing_rules.specs.declared.scope.Column.{Column}
-use Rattle.typing_rules.specs.Scopes.{kind_at, seen_slot}
-use Rattle.typing_rules.proofs.Sound.{is_kind-refl, is_kind-same, left, right, found-passes}
+use Rattle.scalar_trees.specs.declared.typing.scope.Basis.TheVariants.{Point}
+use Rattle.scalar_trees.specs.declared.typing.scope.Column.{Column}
+use Rattle.scalar_trees.specs.typing.Scopes.{kind_at, seen_slot}
+use Rattle.scalar_trees.proofs.typing.Sound.{is_kind-refl, is_kind-same, left, right, found-passes}
 use Rattle.scalar_meaning.specs.Comparisons.{is_null, between, membership}
 use Rattle.scalar_meaning.specs.Logic.{holds}
 use Rattle.scalar_meaning.specs.Numbers.{rounded}

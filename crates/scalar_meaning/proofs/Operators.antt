@@ -20,7 +20,7 @@ use Rattle.scalar_trees.specs.declared.operators.BinaryOperator.{BinaryOperator}
 use Rattle.scalar_trees.specs.declared.operators.BinaryOperator.TheVariants as binary
 use Rattle.scalar_trees.specs.Kinds.{unary_gives, binary_gives, round_gives, number_value}
 use Rattle.scalar_trees.specs.WellTyped.{is_kind, digits_fit}
-use Rattle.typing_rules.proofs.Sound.{both, left, right}
+use Rattle.scalar_trees.proofs.typing.Sound.{both, left, right}
 use Rattle.scalar_meaning.specs.Numbers.{integer_of, of_one, of_number, of_two, modulus, number_or_null, quotient, in_ones, to_digits, placed, rounded}
 use Rattle.scalar_meaning.specs.Logic.{truth_value}
 use Rattle.scalar_meaning.specs.Comparisons.{is_null, is_member, under_sign, membership}

@@ -10,9 +10,9 @@ use Rattle.vtl_syntax.specs.declared.words.AggregateFunction.{AggregateFunction}
 use Rattle.scalar_trees.specs.Kinds.{aggregate_takes, aggregate_gives}
 use Rattle.scalar_trees.specs.declared.tree.CheckedExpr.{CheckedExpr}
 use Rattle.scalar_trees.specs.WellTyped.{Kinds, is_kind, is_some_kind, given, is_of_kind}
-use Rattle.typing_rules.specs.declared.scope.Basis.TheVariants.{Point}
-use Rattle.typing_rules.specs.declared.scope.Column.{Column}
-use Rattle.typing_rules.specs.Scopes.{kinds_of}
+use Rattle.scalar_trees.specs.declared.typing.scope.Basis.TheVariants.{Point}
+use Rattle.scalar_trees.specs.declared.typing.scope.Column.{Column}
+use Rattle.scalar_trees.specs.typing.Scopes.{kinds_of}
 use Rattle.scalar_meaning.specs.Rows.{Row, point_row}
 use Rattle.scalar_meaning.specs.Scalars.{meaning}
 

@@ -1,3 +1,4 @@
 pub mod Kinds
 pub mod WellTyped
 pub mod Erased
+pub mod typing

@@ -3,12 +3,14 @@
 //!
 //! It stands on `vtl_values`, on `vtl_syntax` for the words that a tree keeps, and on `scalar_texts` for patterns. Each
 //! operator is a row of the tables in `specs/Kinds.antt`, and `specs/WellTyped.antt` says what a well typed tree is.
+//! `typing` says which tree an expression is checked to be, or its first fault.
 #![tactic(auto)]
 
 mod kinds;
 mod operators;
 mod pattern;
 mod tree;
+pub mod typing;
 
 pub use kinds::{
     aggregate_gives, aggregate_takes, agreed, any_kind, binary_gives, binary_takes, digits_fit,

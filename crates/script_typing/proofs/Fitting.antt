@@ -15,7 +15,7 @@ use Rattle.vtl_syntax.specs.declared.script.Statement.{Statement}
 use Rattle.shortest_cycles.specs.Paths.{Graph}
 use Rattle.script_graph.specs.Orders.{IsOrder as IsGraphOrder}
 use Rattle.script_graph.proofs.Orders.{has-Contains, order_has}
-use Rattle.typing_rules.specs.Steps.{◌>>=◌}
+use Rattle.scalar_trees.specs.typing.Steps.{◌>>=◌}
 use Rattle.data_set_trees.specs.declared.operand.DataSet.{DataSet}
 use Rattle.data_set_trees.specs.declared.operand.Operand.TheVariants as operand
 use Rattle.data_set_trees.specs.declared.tree.Source.{Source}
@@ -25,11 +25,11 @@ use Rattle.data_set_trees.specs.declared.tree.DataSetTree.TheOpen.{DataSetTree-F
 use Rattle.data_set_trees.specs.declared.tree.DataSetTree.TheVariants as tree
 use Rattle.expression_rules.specs.Expressions.{Naming, typed}
 use Rattle.data_set_trees.specs.Trees.{SetAnswer}
-use Rattle.checked_trees.specs.declared.script.CheckedStatement.{CheckedStatement}
-use Rattle.checked_trees.specs.Expressions.{Expression, Named, name_step, node_step, expression_of}
-use Rattle.checked_trees.specs.Operators.{TakesOperands}
-use Rattle.checked_trees.specs.Scripts.{Script, IsOneOf, FollowOperands, FitsStatement, IsTypedScript, names_in, names_of, structure_of_source}
-use Rattle.checked_trees.specs.Typing.{Fits}
+use Rattle.data_set_trees.specs.declared.checked.script.CheckedStatement.{CheckedStatement}
+use Rattle.data_set_trees.specs.checked.Expressions.{Expression, Named, name_step, node_step, expression_of}
+use Rattle.data_set_trees.specs.checked.Operators.{TakesOperands}
+use Rattle.data_set_trees.specs.checked.Scripts.{Script, IsOneOf, FollowOperands, FitsStatement, IsTypedScript, names_in, names_of, structure_of_source}
+use Rattle.data_set_trees.specs.checked.Typing.{Fits}
 use Rattle.fitting_trees.specs.Fitting.{IsFitting}
 use Rattle.literal_ranges.specs.Ranges.{literals_in_range}
 use Rattle.statement_typing.specs.Names.{from, input_from, input_of}

@@ -7,7 +7,7 @@ use Rattle.vtl_syntax.specs.declared.script.Statement.{Statement}
 use Rattle.shortest_cycles.specs.Paths.{Graph, targets_of}
 use Rattle.script_graph.specs.Orders.{FollowUses}
 use Rattle.script_graph.proofs.Orders.{not_before}
-use Rattle.typing_rules.specs.declared.stop.Refusal.{Refusal}
+use Rattle.scalar_trees.specs.declared.typing.stop.Refusal.{Refusal}
 use Rattle.data_set_trees.specs.declared.operand.DataSet.{DataSet}
 use Rattle.script_typing.specs.declared.state.State.{State}
 use Rattle.script_typing.specs.declared.state.State.TheVariants.{Has, Fails}

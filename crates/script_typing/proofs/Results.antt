@@ -11,10 +11,10 @@ use Rattle.script_graph.specs.Faults.{graph_of, uses_in, IsStop as IsGraphStop}
 use Rattle.script_graph.specs.Orders.{IsOrder as IsGraphOrder, order_of}
 use Rattle.script_graph.specs.declared.fault.GraphStop.{GraphStop}
 use Rattle.script_graph.specs.declared.fault.GraphStop.TheVariants as graph
-use Rattle.typing_rules.specs.declared.stop.Refusal.{Refusal}
+use Rattle.scalar_trees.specs.declared.typing.stop.Refusal.{Refusal}
 use Rattle.data_set_trees.specs.declared.operand.Operand.TheVariants as operand
-use Rattle.checked_trees.specs.declared.script.CheckedStatement.{CheckedStatement}
-use Rattle.checked_trees.specs.Scripts.{Script, IsTypedScript}
+use Rattle.data_set_trees.specs.declared.checked.script.CheckedStatement.{CheckedStatement}
+use Rattle.data_set_trees.specs.checked.Scripts.{Script, IsTypedScript}
 use Rattle.literal_ranges.specs.Ranges.{literals_in_range}
 use Rattle.fitting_trees.proofs.Expressions.{typed-fits}
 use Rattle.script_typing.specs.declared.state.State.{State}

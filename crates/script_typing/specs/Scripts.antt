@@ -6,10 +6,10 @@ use Rattle.vtl_syntax.specs.declared.script.Statement.{Statement}
 use Rattle.shortest_cycles.specs.Paths.{Graph}
 use Rattle.script_graph.specs.Faults.{graph_of, first_fault}
 use Rattle.script_graph.specs.Orders.{order_of}
-use Rattle.typing_rules.specs.declared.stop.Refusal.{Refusal}
+use Rattle.scalar_trees.specs.declared.typing.stop.Refusal.{Refusal}
 use Rattle.data_set_trees.specs.declared.operand.DataSet.{DataSet}
-use Rattle.checked_trees.specs.declared.script.CheckedStatement.{CheckedStatement}
-use Rattle.checked_trees.specs.Scripts.{Script}
+use Rattle.data_set_trees.specs.declared.checked.script.CheckedStatement.{CheckedStatement}
+use Rattle.data_set_trees.specs.checked.Scripts.{Script}
 use Rattle.script_typing.specs.declared.state.State.{State}
 use Rattle.script_typing.specs.declared.state.State.TheVariants.{Idle, Has, Fails}
 use Rattle.script_typing.specs.declared.stop.ScriptStop.{ScriptStop}

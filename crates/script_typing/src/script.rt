@@ -8,13 +8,13 @@ ghost use Rattle.script_typing.specs.Scripts as meant;
 use crate::state::State;
 use crate::stop::ScriptStop;
 use crate::typing::states_of;
-use checked_trees::{CheckedStatement, TypedScript};
 use data_set_trees::DataSet;
+use data_set_trees::checked::{CheckedStatement, TypedScript};
 use literal_ranges::see_literals;
+use scalar_trees::typing::Refusal;
 use script_graph::{ScriptOrder, order};
 use sqlite_items::Items;
 use std::alloc::{AllocError, Global};
-use typing_rules::Refusal;
 use vtl_syntax::{Script, Statement};
 use vtl_values::Structures;
 

@@ -1,6 +1,6 @@
 // What a statement comes to.
 use data_set_trees::DataSet;
-use typing_rules::Refusal;
+use scalar_trees::typing::Refusal;
 
 /// What a statement has come to.
 #[derive(Drop)]

@@ -3,9 +3,9 @@ ghost use Rattle.std.specs.Prelude.{◌≡◌};
 ghost use Rattle.script_typing.specs.declared.stop.ScriptStop.TheVariants.{Memory};
 ghost use Rattle.script_typing.specs.Stops.{of_graph};
 
+use scalar_trees::typing::Refusal;
 use script_graph::{GraphStop, PlacedFault};
 use std::alloc::AllocError;
-use typing_rules::Refusal;
 
 /// Why a script isn't typed.
 #[derive(Drop)]

@@ -7,11 +7,11 @@ ghost use Rattle.script_typing.specs.Scripts as whole;
 
 use crate::state::State;
 use data_set_trees::Operand;
+use scalar_trees::typing::{Fault, Refusal, TypeStop};
 use shortest_cycles::targets_of;
 use sqlite_items::{Items, at};
 use statement_typing::{Names, check_expression};
 use std::alloc::{AllocError, Global};
-use typing_rules::{Fault, Refusal, TypeStop};
 use vtl_syntax::Statement;
 use vtl_values::{Structures, Word};
 

@@ -22,10 +22,10 @@ use Rattle.clause_meaning.proofs.Picked.{AllZip-weaker}
 use Rattle.data_set_trees.specs.declared.tree.DataSetOperator.{DataSetOperator}
 use Rattle.data_set_trees.specs.declared.tree.DataSetOperator.TheVariants.{Set}
 use Rattle.data_set_trees.specs.declared.tree.SetOperation.{SetOperation}
-use Rattle.checked_trees.specs.Operators.{an_operator, Operator, IsTyped, TakesOperands}
+use Rattle.data_set_trees.specs.checked.Operators.{an_operator, Operator, IsTyped, TakesOperands}
 use Rattle.operator_meaning.specs.Operators.{meaning_of, AreOperands}
-use Rattle.set_meaning.specs.Sets.{set_on}
-use Rattle.set_meaning.specs.Typed.{IsTypedSet}
+use Rattle.operator_meaning.specs.sets.Sets.{set_on}
+use Rattle.operator_meaning.specs.sets.Typed.{IsTypedSet}
 use Rattle.set_ops.specs.Noted.{read_value, IsNoted, all_keys_read}
 use Rattle.set_ops.specs.Readings.{readings_of}
 use Rattle.set_ops.specs.Rules.{wanted_of}

@@ -26,7 +26,7 @@ use Rattle.held_index.specs.Reach.{changes_in}
 use Rattle.held_index.specs.Rules.{after_news}
 use Rattle.clause_meaning.specs.Clauses.{values_at}
 use Rattle.data_set_trees.specs.declared.tree.SetOperation.{SetOperation}
-use Rattle.set_meaning.specs.Sets.{chosen}
+use Rattle.operator_meaning.specs.sets.Sets.{chosen}
 use Rattle.set_ops.specs.Noted.{read_value, noted_key, IsNoted, keys_read, all_keys_read}
 use Rattle.set_ops.specs.Readings.{own_points, in_order}
 use Rattle.set_ops.specs.declared.reading.Reading.{Reading}

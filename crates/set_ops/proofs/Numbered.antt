@@ -12,8 +12,8 @@ use Rattle.structured_sets.proofs.Lists.{position-cons}
 use Rattle.clause_meaning.specs.Clauses.{values_at}
 use Rattle.clause_meaning.proofs.ByRole.{of-identifiers}
 use Rattle.data_set_trees.specs.Components.{has_name, identifiers}
-use Rattle.pair_meaning.specs.Pairs.{value_where, key_between}
-use Rattle.set_meaning.specs.Sets.{rest_between, read_at}
+use Rattle.operator_meaning.specs.pairs.Pairs.{value_where, key_between}
+use Rattle.operator_meaning.specs.sets.Sets.{rest_between, read_at}
 use Rattle.set_ops.specs.Orders.{numbers_between}
 use Rattle.set_ops.specs.Readings.{readings_of, read_points}
 

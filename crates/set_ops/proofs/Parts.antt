@@ -7,7 +7,7 @@ use Rattle.vtl_values.specs.declared.kind.Role.TheVariants.{Identifier}
 use Rattle.vtl_values.specs.declared.structure.Component.{Component}
 use Rattle.vtl_values.specs.Structures.{IsStructure}
 use Rattle.structured_sets.specs.Fitting.{identifiers, others}
-use Rattle.clause_trees.specs.Frames.{has_role}
+use Rattle.data_set_trees.specs.clauses.Frames.{has_role}
 use Rattle.clause_meaning.proofs.ByRole.{of-identifiers}
 use Rattle.clause_meaning.proofs.First.{identifiers-first}
 

@@ -29,13 +29,13 @@ use Rattle.held_index.specs.Rules.{SetOutcome, after_news}
 use Rattle.clause_meaning.specs.Clauses.{values_at}
 use Rattle.clause_meaning.proofs.ByRole.{of-identifiers}
 use Rattle.data_set_trees.specs.Components.{identifiers}
-use Rattle.pair_meaning.specs.Pairs.{key_between}
-use Rattle.pair_meaning.proofs.Paired.{listed-map}
-use Rattle.set_meaning.specs.Sets.{SetOn, read_at, rest_between, is_key_between, point_at, chosen, set_keys, set_working, set_meaning}
-use Rattle.set_meaning.specs.Typed.{IsTypedSet}
-use Rattle.set_meaning.proofs.Covered.{set-covered}
-use Rattle.set_meaning.proofs.Read.{IsRead, key-long, all-read}
-use Rattle.set_meaning.proofs.Words.{points-same}
+use Rattle.operator_meaning.specs.pairs.Pairs.{key_between}
+use Rattle.operator_meaning.proofs.pairs.Paired.{listed-map}
+use Rattle.operator_meaning.specs.sets.Sets.{SetOn, read_at, rest_between, is_key_between, point_at, chosen, set_keys, set_working, set_meaning}
+use Rattle.operator_meaning.specs.sets.Typed.{IsTypedSet}
+use Rattle.operator_meaning.proofs.sets.Covered.{set-covered}
+use Rattle.operator_meaning.proofs.sets.Read.{IsRead, key-long, all-read}
+use Rattle.operator_meaning.proofs.sets.Words.{points-same}
 use Rattle.set_ops.specs.Noted.{read_value, keys_read, all_keys_read}
 use Rattle.set_ops.specs.Readings.{reading_between, readings_of}
 use Rattle.set_ops.proofs.Numbered.{key-numbered, points-read}

@@ -15,7 +15,7 @@ use Rattle.point_sets.specs.declared.point.Point.{Point}
 use Rattle.clause_meaning.specs.Clauses.{values_at}
 use Rattle.data_set_trees.specs.declared.tree.SetOperation.{SetOperation}
 use Rattle.data_set_trees.specs.declared.tree.SetOperation.TheVariants.{Intersect, Setdiff}
-use Rattle.set_meaning.specs.Sets.{stays, chosen}
+use Rattle.operator_meaning.specs.sets.Sets.{stays, chosen}
 use Rattle.set_ops.specs.Readings.{in_order}
 use Rattle.set_ops.specs.declared.reading.Reading.{Reading}
 

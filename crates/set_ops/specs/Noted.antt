@@ -11,7 +11,7 @@ use Rattle.held_index.specs.Holdings.{Holding, contents}
 use Rattle.held_index.specs.Rules.{after_news}
 use Rattle.clause_meaning.specs.Clauses.{values_at}
 use Rattle.data_set_trees.specs.declared.tree.SetOperation.{SetOperation}
-use Rattle.set_meaning.specs.Sets.{chosen}
+use Rattle.operator_meaning.specs.sets.Sets.{chosen}
 use Rattle.set_ops.specs.Readings.{read_points}
 use Rattle.set_ops.specs.declared.reading.Reading.{Reading}
 

@@ -4,7 +4,7 @@ ghost use Rattle.std.specs.List.{list_all, list_any};
 ghost use Rattle.data_model.specs.Maps as maps;
 ghost use Rattle.point_sets.specs.DataSets.{HasKey};
 ghost use Rattle.point_sets.specs.Changes.{values_of};
-ghost use Rattle.set_meaning.specs.Sets as meant;
+ghost use Rattle.operator_meaning.specs.sets.Sets as meant;
 ghost use Rattle.set_ops.specs.Readings.{in_order};
 
 use crate::reading::Reading;

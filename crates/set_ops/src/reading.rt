@@ -4,7 +4,7 @@ ghost use Rattle.vtl_values.specs.declared.kind.Role.TheVariants.{Identifier};
 ghost use Rattle.vtl_values.specs.Structures.{IsStructure};
 ghost use Rattle.point_sets.specs.DataSets.{key_of, rest_of};
 ghost use Rattle.structured_sets.specs.Fitting.{identifiers, others};
-ghost use Rattle.clause_trees.specs.Frames.{has_role};
+ghost use Rattle.data_set_trees.specs.clauses.Frames.{has_role};
 ghost use Rattle.clause_meaning.specs.Clauses.{values_at};
 ghost use Rattle.set_ops.specs.Readings.{reading_between};
 

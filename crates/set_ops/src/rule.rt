@@ -1,7 +1,7 @@
 // The rule of a set operator.
 ghost use Rattle.std.specs.Prelude.{◌≡◌, IfOk};
 ghost use Rattle.data_set_trees.specs.declared.tree.DataSetOperator.TheVariants.{Set};
-ghost use Rattle.checked_trees.specs.Operators.{an_operator, IsTyped};
+ghost use Rattle.data_set_trees.specs.checked.Operators.{an_operator, IsTyped};
 ghost use Rattle.set_ops.specs.Readings.{readings_of};
 ghost use Rattle.set_ops.specs.Rules.{IsSet};
 
@@ -31,7 +31,7 @@ pub struct SetRule {
 }
 
 impl Model for SetRule {
-    ghost use Rattle.checked_trees.specs.Operators.{an_operator, operator_coded, Operator};
+    ghost use Rattle.data_set_trees.specs.checked.Operators.{an_operator, operator_coded, Operator};
     ghost use Rattle.set_ops.specs.Rules.{IsRule};
 
     ghost Value = { Operator };

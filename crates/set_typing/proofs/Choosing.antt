@@ -4,9 +4,9 @@ use Rattle.std.specs.Prelude.{nat_eq}
 use Rattle.std.proofs.lemmas.List.Folds.{list_all-map}
 use Rattle.vtl_values.specs.declared.place.Place.{Place}
 use Rattle.vtl_values.specs.declared.structure.Component.{Component}
-use Rattle.typing_rules.specs.declared.stop.Fault.TheVariants.{WrongType, WrongStructure}
-use Rattle.typing_rules.specs.Steps.{◌>>=◌}
-use Rattle.clause_trees.specs.Clauses.{demands}
+use Rattle.scalar_trees.specs.declared.typing.stop.Fault.TheVariants.{WrongType, WrongStructure}
+use Rattle.scalar_trees.specs.typing.Steps.{◌>>=◌}
+use Rattle.data_set_trees.specs.clauses.Clauses.{demands}
 use Rattle.data_set_trees.specs.declared.measure.Measure.{Measure}
 use Rattle.data_set_trees.specs.declared.operand.DataSet.{DataSet}
 use Rattle.data_set_trees.specs.declared.operand.Operand.{Operand}

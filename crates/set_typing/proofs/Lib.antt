@@ -1,3 +1,4 @@
 pub mod Choosing
 pub mod Members
 pub mod Plans
+pub mod Checked

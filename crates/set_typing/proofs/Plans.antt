@@ -7,9 +7,9 @@ use Rattle.vtl_values.specs.declared.place.Place.{Place}
 use Rattle.vtl_values.specs.declared.structure.Component.{Component}
 use Rattle.vtl_syntax.specs.declared.words.ExistsRows.{ExistsRows}
 use Rattle.vtl_syntax.specs.declared.words.ExistsRows.TheVariants.{All}
-use Rattle.typing_rules.specs.declared.stop.Fault.TheVariants.{WrongStructure}
-use Rattle.typing_rules.specs.declared.stop.TypeStop.{TypeStop}
-use Rattle.typing_rules.specs.Steps.{◌>>=◌, Refuses, or_refused, demanded}
+use Rattle.scalar_trees.specs.declared.typing.stop.Fault.TheVariants.{WrongStructure}
+use Rattle.scalar_trees.specs.declared.typing.stop.TypeStop.{TypeStop}
+use Rattle.scalar_trees.specs.typing.Steps.{◌>>=◌, Refuses, or_refused, demanded}
 use Rattle.operator_typing.proofs.Steps.{stops_same, stops_there, goes_on}
 use Rattle.data_set_trees.specs.declared.operand.DataSet.{DataSet}
 use Rattle.data_set_trees.specs.declared.operand.Operand.{Operand}
@@ -47,14 +47,14 @@ exists_lifts rows place (operand.Scalar s) right = refl
 
 -- ---- set operators
 
-abbrev parts : DataSet → List Component
+abbrev pub parts : DataSet → List Component
 parts d = d.structure
 
 fused : (d : DataSet) (q : Option (List DataSet)) → option_map (λ ss. d.structure ∷ ss) (option_map (map parts) q) ≡ option_map (map parts) (option_map (λ ds. d ∷ ds) q)
 fused d None = refl
 fused d (Some ds) = refl
 
-all_structures_are : (os : List Operand) → all_structures os ≡ option_map (map parts) (all_data_sets os)
+pub all_structures_are : (os : List Operand) → all_structures os ≡ option_map (map parts) (all_data_sets os)
 all_structures_are [] = refl
 all_structures_are (operand.Scalar t ∷ os) = refl
 all_structures_are (operand.DataSet d ∷ os) = ap (option_map (λ ss. d.structure ∷ ss)) (all_structures_are os) ∙ fused d (all_data_sets os)
@@ -64,7 +64,7 @@ one_more d rest ds None is same = cc
 one_more d rest ds (Some es) is same = let all : d ∷ es ≡ ds = cc in ap (λ (q : List DataSet). d ∷ q) (same es refl) ∙ all
 
 -- where all are data sets, those among them are all
-all_are : (os : List Operand) (ds : List DataSet) → all_data_sets os ≡ Some ds → data_sets os ≡ ds
+pub all_are : (os : List Operand) (ds : List DataSet) → all_data_sets os ≡ Some ds → data_sets os ≡ ds
 all_are [] ds is = cc
 all_are (operand.Scalar t ∷ os) ds is = cc
 all_are (operand.DataSet d ∷ os) ds is = one_more d (data_sets os) ds (all_data_sets os) is (all_are os)

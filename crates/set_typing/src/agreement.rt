@@ -2,7 +2,7 @@
 ghost use Rattle.std.specs.Prelude.{◌≡◌, ◌&&◌, ◌∷◌, [], Some, is_some, length, nat_eq, Ok, IfOk, IfErr};
 ghost use Rattle.std.specs.List.{list_all};
 ghost use Rattle.scalar_trees.specs.Kinds as kinds;
-ghost use Rattle.typing_rules.specs.Steps.{Refuses};
+ghost use Rattle.scalar_trees.specs.typing.Steps.{Refuses};
 ghost use Rattle.data_set_trees.specs.Components as parts;
 ghost use Rattle.data_set_trees.specs.Choices as meant;
 ghost use Rattle.set_typing.specs.Conditionals as own;
@@ -11,9 +11,9 @@ use crate::collections::all_alike;
 use data_set_parts::components::{identifiers, include, measures, virals_agree};
 use data_set_parts::demands::demands;
 use data_set_trees::{DataSet, Measure, Operand};
+use scalar_trees::typing::{Fault, TypeStop, Typed};
 use scalar_trees::{agreed, any_kind};
 use std::alloc::{AllocError, Global};
-use typing_rules::{Fault, TypeStop, Typed};
 use vtl_values::{Component, Kind, Place, Structure};
 
 /// Whether there is a kind at which both may stand.
@@ -113,7 +113,7 @@ fn all_belong(
     Ok(true)
 }
 
-fn has_one_measure(alloc: Global, components: &[Component]) -> Result<bool, AllocError>
+pub(crate) fn has_one_measure(alloc: Global, components: &[Component]) -> Result<bool, AllocError>
     ensures { IfOk result (λ one. one ≡ nat_eq (length (parts.measures components.now)) 1) }
 {
     let measures = measures(alloc, components)?;

@@ -1,6 +1,6 @@
 // The measures of a conditional on data sets.
 ghost use Rattle.std.specs.Prelude.{◌≡◌, find, option_map, Ok, IfOk, IfErr};
-ghost use Rattle.typing_rules.specs.Steps.{Refuses};
+ghost use Rattle.scalar_trees.specs.typing.Steps.{Refuses};
 ghost use Rattle.data_set_trees.specs.Choices as meant;
 ghost use Rattle.data_set_trees.specs.Lifted as lifted;
 ghost use Rattle.data_set_trees.specs.Pairs as pairs;
@@ -14,9 +14,9 @@ use data_set_parts::measures::{is_called, slot_of, stands};
 use data_set_trees::{ChoiceMeasure, DataSet, Measure, Operand};
 use operator_typing::{Agreed, agreeing};
 use scalar_trees::any_kind;
+use scalar_trees::typing::{Slot, TypeStop, Typed};
 use sqlite_items::Items;
 use std::alloc::{AllocError, Global};
-use typing_rules::{Slot, TypeStop, Typed};
 use vtl_values::{Place, Structure, Word};
 
 /// The first measure of this name as the component that it is, if there is one.

@@ -1,7 +1,7 @@
 // Set operators on data sets.
 ghost use Rattle.std.specs.Prelude.{◌≡◌, ◌∷◌, Ok, IfOk, IfErr};
 ghost use Rattle.std.specs.List.{list_all};
-ghost use Rattle.typing_rules.specs.Steps.{Refuses};
+ghost use Rattle.scalar_trees.specs.typing.Steps.{Refuses};
 ghost use Rattle.data_set_trees.specs.Components as parts;
 ghost use Rattle.data_set_trees.specs.Sets as meant;
 ghost use Rattle.set_typing.specs.Plans as own;
@@ -10,13 +10,13 @@ use crate::applying::applied;
 use data_set_parts::components::are_alike;
 use data_set_parts::results::without_codes;
 use data_set_trees::{DataSetOperator, Operand, SetOperation};
+use scalar_trees::typing::{Fault, TypeStop, demand};
 use sqlite_items::Items;
 use std::alloc::{AllocError, Global};
-use typing_rules::{Fault, TypeStop, demand};
 use vtl_values::{Place, Structure};
 
 /// The structures of the operands, where all are data sets. Or want of memory.
-fn all_structures(
+pub(crate) fn all_structures(
     alloc: Global,
     operands: &[Operand],
 ) -> Result<Option<Items<Structure>>, AllocError>

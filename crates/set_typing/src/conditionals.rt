@@ -1,6 +1,6 @@
 // `if c then a else b`.
 ghost use Rattle.std.specs.Prelude.{◌≡◌, ◌∷◌, [], Ok, IfOk, IfErr};
-ghost use Rattle.typing_rules.specs.Steps.{Refuses};
+ghost use Rattle.scalar_trees.specs.typing.Steps.{Refuses};
 ghost use Rattle.data_set_trees.specs.declared.operand.Operand.TheVariants as operand;
 ghost use Rattle.data_set_trees.specs.Choices as meant;
 ghost use Rattle.data_set_trees.specs.Trees as trees;
@@ -13,9 +13,9 @@ use crate::results::structure_with;
 use data_set_parts::nodes::structures_of;
 use data_set_trees::{Branch, DataSetOperator, Operand};
 use operator_typing::if_typed;
+use scalar_trees::typing::{Fault, TypeStop, Typed};
 use sqlite_items::Items;
 use std::alloc::{AllocError, Global};
-use typing_rules::{Fault, TypeStop, Typed};
 use vtl_values::Place;
 
 fn branch_of(operand: &Operand) -> Branch

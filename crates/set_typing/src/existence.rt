@@ -3,7 +3,7 @@ ghost use Rattle.std.specs.Prelude.{◌≡◌, not, ◌||◌, Ok, IfOk, IfErr};
 ghost use Rattle.std.specs.List.{list_all};
 ghost use Rattle.vtl_values.specs.Texts.{same_text};
 ghost use Rattle.scalar_trees.specs.WellTyped.{is_kind};
-ghost use Rattle.typing_rules.specs.Steps.{Refuses};
+ghost use Rattle.scalar_trees.specs.typing.Steps.{Refuses};
 ghost use Rattle.data_set_trees.specs.Exists as meant;
 ghost use Rattle.set_typing.specs.Plans as own;
 
@@ -13,9 +13,9 @@ use data_set_parts::joins::{by_parts, made_measure};
 use data_set_parts::names::name_of_kind;
 use data_set_parts::results::fitting;
 use data_set_trees::{DataSetOperator, Operand};
+use scalar_trees::typing::{Fault, TypeStop, demand};
 use sqlite_items::Items;
 use std::alloc::{AllocError, Global};
-use typing_rules::{Fault, TypeStop, demand};
 use vtl_syntax::words::ExistsRows;
 use vtl_values::{Component, Kind, Place, Structure};
 

@@ -1,4 +1,4 @@
-//! What `a#c`, `exists_in`, set operators and conditionals on data sets are checked to be, or their faults.
+//! What `a#c`, `exists_in`, set operators, `check` and conditionals on data sets are checked to be, or their faults.
 //!
 //! It stands on `data_set_trees` for the trees and the definitions, on `data_set_parts` for structures and trees, and on
 //! `operator_typing` for conditionals of scalars. There is one call for each operator, whose operands the caller has typed.
@@ -12,6 +12,7 @@
 mod agreement;
 mod applying;
 mod branches;
+mod checks;
 mod chosen;
 mod collections;
 mod conditionals;
@@ -19,6 +20,7 @@ mod existence;
 mod membership;
 mod results;
 
+pub use checks::check;
 pub use collections::sets;
 pub use conditionals::choice;
 pub use existence::exists;

@@ -1,20 +1,20 @@
 // `a#c` of a data set.
 ghost use Rattle.std.specs.Prelude.{◌≡◌, Ok, Err, option_map, IfOk, IfErr};
-ghost use Rattle.typing_rules.specs.declared.stop.Fault.TheVariants as fault;
-ghost use Rattle.typing_rules.specs.declared.stop.TypeStop.TheVariants.{Refused};
-ghost use Rattle.typing_rules.specs.Steps.{Refuses};
+ghost use Rattle.scalar_trees.specs.declared.typing.stop.Fault.TheVariants as fault;
+ghost use Rattle.scalar_trees.specs.declared.typing.stop.TypeStop.TheVariants.{Refused};
+ghost use Rattle.scalar_trees.specs.typing.Steps.{Refuses};
 ghost use Rattle.data_set_trees.specs.Members as meant;
 ghost use Rattle.set_typing.specs.Plans as own;
 
-use clause_trees::{CheckedClause, CheckedMeasure};
 use data_set_parts::clauses::with_clause;
 use data_set_parts::components::{has_name, has_role};
 use data_set_parts::names::{is_free, name_of_kind};
+use data_set_trees::clauses::{CheckedClause, CheckedMeasure};
 use data_set_trees::{DataSet, Measure, Operand};
 use scalar_trees::CheckedExpr;
+use scalar_trees::typing::{Fault, TypeStop, Typed, demand};
 use sqlite_items::Items;
 use std::alloc::{AllocError, Global};
-use typing_rules::{Fault, TypeStop, Typed, demand};
 use vtl_values::{Component, Place, Role, Word};
 
 /// A measure that is chosen, as it is worked out.

@@ -2,7 +2,7 @@
 ghost use Rattle.std.specs.Prelude.{◌≡◌, [], map, Ok, IfOk, IfErr};
 ghost use Rattle.std.specs.List.{All};
 ghost use Rattle.vtl_values.specs.declared.kind.Role.TheVariants as role;
-ghost use Rattle.typing_rules.specs.Steps.{Refuses};
+ghost use Rattle.scalar_trees.specs.typing.Steps.{Refuses};
 ghost use Rattle.data_set_trees.specs.Components as parts;
 ghost use Rattle.data_set_parts.specs.Joins.{IsOf};
 ghost use Rattle.set_typing.specs.Conditionals as own;
@@ -11,9 +11,9 @@ use data_set_parts::components::{further, identifiers, virals};
 use data_set_parts::joins::{by_parts, made_measure};
 use data_set_parts::results::fitting;
 use data_set_trees::ChoiceMeasure;
+use scalar_trees::typing::TypeStop;
 use sqlite_items::Items;
 use std::alloc::{AllocError, Global};
-use typing_rules::TypeStop;
 use vtl_values::{Component, Place, Structure};
 
 fn item_components(alloc: Global, items: &[ChoiceMeasure]) -> Result<Items<Component>, AllocError>
@@ -26,7 +26,10 @@ fn item_components(alloc: Global, items: &[ChoiceMeasure]) -> Result<Items<Compo
     Ok(all)
 }
 
-fn identifiers_of(alloc: Global, structure: &Structure) -> Result<Items<Component>, AllocError>
+pub(crate) fn identifiers_of(
+    alloc: Global,
+    structure: &Structure,
+) -> Result<Items<Component>, AllocError>
     ensures value { IfOk result (λ all. all ≡ parts.identifiers structure.now) }
     ensures sound { IfOk result (λ all. All (IsOf role.Identifier) all) }
 {
@@ -47,8 +50,18 @@ fn first_identifiers(
     }
 }
 
+pub(crate) fn virals_of(
+    alloc: Global,
+    structure: &Structure,
+) -> Result<Items<Component>, AllocError>
+    ensures value { IfOk result (λ all. all ≡ parts.virals structure.now) }
+    ensures sound { IfOk result (λ all. All (IsOf role.Viral) all) }
+{
+    virals(alloc, structure.components())
+}
+
 /// The viral attributes of one more data set.
-fn more_virals(
+pub(crate) fn more_virals(
     alloc: Global,
     before: &[Component],
     structure: &Structure,

@@ -10,17 +10,17 @@ use Rattle.vtl_syntax.specs.declared.expr.Groups.{Groups}
 use Rattle.vtl_syntax.specs.declared.expr.Item.{Item}
 use Rattle.vtl_syntax.specs.declared.expr.JoinOperand.{JoinOperand}
 use Rattle.vtl_syntax.specs.declared.expr.SubstrRange.{SubstrRange}
-use Rattle.typing_rules.specs.declared.scope.Basis.TheVariants.{Point}
-use Rattle.typing_rules.specs.declared.stop.Fault.TheVariants.{UnknownComponent, WrongType, WrongRole, BadConstant}
-use Rattle.typing_rules.specs.Scalars.{typed, wanted}
-use Rattle.clause_trees.specs.declared.clause.CheckedClause.{CheckedClause}
-use Rattle.clause_trees.specs.declared.clause.CheckedClause.TheVariants as clause
-use Rattle.clause_trees.specs.declared.frame.Frame.{Frame}
-use Rattle.clause_trees.specs.Frames.{frame_of, scope_of_frame}
-use Rattle.clause_trees.specs.After.{after, is_kept, is_left}
-use Rattle.clause_trees.specs.Clauses.{filter_typed, calc_typed, are_known, may_keep, may_drop, numbers_named, are_known_items, subs_checked, are_comparable, are_identifiers, are_present}
-use Rattle.clause_trees.proofs.Made.{met, calc_gives, rename_gives, unpivot_gives}
-use Rattle.clause_trees.proofs.Parts.{leaves_structures}
+use Rattle.scalar_trees.specs.declared.typing.scope.Basis.TheVariants.{Point}
+use Rattle.scalar_trees.specs.declared.typing.stop.Fault.TheVariants.{UnknownComponent, WrongType, WrongRole, BadConstant}
+use Rattle.scalar_trees.specs.typing.Scalars.{typed, wanted}
+use Rattle.data_set_trees.specs.declared.clauses.clause.CheckedClause.{CheckedClause}
+use Rattle.data_set_trees.specs.declared.clauses.clause.CheckedClause.TheVariants as clause
+use Rattle.data_set_trees.specs.declared.clauses.frame.Frame.{Frame}
+use Rattle.data_set_trees.specs.clauses.Frames.{frame_of, scope_of_frame}
+use Rattle.data_set_trees.specs.clauses.After.{after, is_kept, is_left}
+use Rattle.data_set_trees.specs.clauses.Clauses.{filter_typed, calc_typed, are_known, may_keep, may_drop, numbers_named, are_known_items, subs_checked, are_comparable, are_identifiers, are_present}
+use Rattle.data_set_trees.proofs.clauses.Made.{met, calc_gives, rename_gives, unpivot_gives}
+use Rattle.data_set_trees.proofs.clauses.Parts.{leaves_structures}
 use Rattle.expression_rules.specs.OnClauses.{items_checked, clause_step, clause_checked}
 use Rattle.data_set_parts.specs.Results.{structure_after}
 use Rattle.data_set_parts.proofs.Fits.{unlisted_is}

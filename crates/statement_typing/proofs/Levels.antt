@@ -8,9 +8,8 @@ use Rattle.vtl_syntax.specs.declared.words.AggregateFunction.{AggregateFunction}
 use Rattle.vtl_syntax.specs.declared.words.CheckOutput.{CheckOutput}
 use Rattle.vtl_syntax.specs.declared.words.JoinFunction.{JoinFunction}
 use Rattle.vtl_syntax.specs.declared.words.SetFunction.{SetFunction}
-use Rattle.typing_rules.specs.declared.stop.Fault.TheVariants.{WrongStructure}
-use Rattle.typing_rules.specs.Steps.{refused}
 use Rattle.data_set_trees.specs.Joins.{alias_of}
+use Rattle.expression_rules.specs.OnChecks.{check_typed}
 use Rattle.expression_rules.specs.OnSets.{on_aggregate}
 use Rattle.expression_rules.specs.JoinClauses.{join_typed}
 use Rattle.data_set_trees.specs.Sets.{sets_typed}
@@ -22,7 +21,7 @@ use Rattle.vtl_syntax.specs.declared.expr.Groups.{Groups}
 use Rattle.vtl_syntax.specs.declared.expr.Item.{Item}
 use Rattle.vtl_syntax.specs.declared.expr.JoinOperand.{JoinOperand, out-JoinOperand, roll-out-JoinOperand, para-JoinOperand, para-roll-JoinOperand}
 use Rattle.vtl_syntax.specs.declared.expr.SubstrRange.{SubstrRange, out-SubstrRange, roll-out-SubstrRange, map-SubstrRange, para-SubstrRange, para-roll-SubstrRange}
-use Rattle.typing_rules.specs.declared.stop.TypeStop.{TypeStop}
+use Rattle.scalar_trees.specs.declared.typing.stop.TypeStop.{TypeStop}
 use Rattle.data_set_trees.specs.declared.operand.Operand.{Operand}
 use Rattle.expression_rules.specs.Expressions.{Naming, Typing, RangeTyping, Level, typed_step, on_operands, operation_of, range_typings, typings, clauses_of, operand_step, range_step, typing, typed}
 use Rattle.data_set_trees.specs.declared.form.Form.TheVariants as form
@@ -150,5 +149,7 @@ module _ (naming : Naming) where
       ap (λ (h : Option Groups). after_one naming a (on_aggregate f h p)) (groups_are g)
       ∙ ap (λ (l : Level). typed_step l naming) (sym (maps-Aggregate Clause Expr Groups Item JoinOperand SubstrRange (Clause × ⊤) (Expr × Typing) (Groups × ⊤) (Item × ⊤) (JoinOperand × Typing) (SubstrRange × RangeTyping) clause_part part groups_part item_part operand_part range_part f a g p))
 
-  pub check_level : (a : Expr) (code : Option (List ℕ)) (level : Option ℤ) (e : Option Expr) (output : Option CheckOutput) (p : Place) → refused WrongStructure p ≡ typed_step (level_of (Expr-F.Check a code level e output p)) naming
-  check_level a code level e output p = ap (λ (l : Level). typed_step l naming) (sym (maps-Check Clause Expr Groups Item JoinOperand SubstrRange (Clause × ⊤) (Expr × Typing) (Groups × ⊤) (Item × ⊤) (JoinOperand × Typing) (SubstrRange × RangeTyping) clause_part part groups_part item_part operand_part range_part a code level e output p))
+  pub check_level : (a : Expr) (code : Option (List ℕ)) (level : Option ℤ) (e : Option Expr) (output : Option CheckOutput) (p : Place) → after_all naming (typing a ∷ of_optional e) (check_typed (record { code = code; level = level }) output p) ≡ typed_step (level_of (Expr-F.Check a code level e output p)) naming
+  check_level a code level e output p =
+      ap (λ (ts : List Typing). after_all naming (typing a ∷ ts) (check_typed (record { code = code; level = level }) output p)) (sym (typings_are e))
+      ∙ ap (λ (l : Level). typed_step l naming) (sym (maps-Check Clause Expr Groups Item JoinOperand SubstrRange (Clause × ⊤) (Expr × Typing) (Groups × ⊤) (Item × ⊤) (JoinOperand × Typing) (SubstrRange × RangeTyping) clause_part part groups_part item_part operand_part range_part a code level e output p))

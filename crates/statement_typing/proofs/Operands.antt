@@ -1,7 +1,7 @@
 -- Operands that are typed one after the other.
 use Rattle.std.proofs.Common.{◌≡◌, List, [], ◌∷◌, ◌++◌, Result, Ok, Err, refl, sym, ap, ◌∙◌}
-use Rattle.typing_rules.specs.declared.stop.Refusal.{Refusal}
-use Rattle.typing_rules.specs.Steps.{◌>>=◌}
+use Rattle.scalar_trees.specs.declared.typing.stop.Refusal.{Refusal}
+use Rattle.scalar_trees.specs.typing.Steps.{◌>>=◌}
 use Rattle.operator_typing.proofs.Steps.{goes_on}
 use Rattle.data_set_trees.specs.declared.operand.Operand.{Operand}
 use Rattle.data_set_trees.specs.Trees.{SetAnswer}

@@ -1,9 +1,9 @@
 -- What a step answers whose parts answered.
 use Rattle.std.proofs.Common.{◌≡◌, Result, Ok, Err, IfOk, IfErr, IsErrAnd, sym, subst}
-use Rattle.typing_rules.specs.declared.stop.Refusal.{Refusal}
-use Rattle.typing_rules.specs.declared.stop.TypeStop.{TypeStop}
-use Rattle.typing_rules.specs.declared.stop.TypeStop.TheVariants.{Memory}
-use Rattle.typing_rules.specs.Steps.{◌>>=◌, Refuses}
+use Rattle.scalar_trees.specs.declared.typing.stop.Refusal.{Refusal}
+use Rattle.scalar_trees.specs.declared.typing.stop.TypeStop.{TypeStop}
+use Rattle.scalar_trees.specs.declared.typing.stop.TypeStop.TheVariants.{Memory}
+use Rattle.scalar_trees.specs.typing.Steps.{◌>>=◌, Refuses}
 use Rattle.operator_typing.proofs.Steps.{goes_on, stops_there}
 use Rattle.statement_typing.specs.Parts.{Answers}
 

@@ -3,8 +3,8 @@ use Rattle.std.proofs.Common.{◌≡◌, List, [], ◌∷◌, map, Ok, refl}
 use Rattle.vtl_syntax.specs.declared.expr.Expr.{Expr}
 use Rattle.vtl_syntax.specs.declared.expr.Item.{Item}
 use Rattle.vtl_syntax.specs.declared.expr.JoinOperand.{JoinOperand}
-use Rattle.typing_rules.specs.Steps.{◌>>=◌}
-use Rattle.clause_trees.specs.declared.frame.Frame.{Frame}
+use Rattle.scalar_trees.specs.typing.Steps.{◌>>=◌}
+use Rattle.data_set_trees.specs.declared.clauses.frame.Frame.{Frame}
 use Rattle.expression_rules.specs.Expressions.{Naming, typing, all_typed, typed}
 use Rattle.expression_rules.specs.OnClauses.{item_checked, items_checked}
 use Rattle.data_set_parts.specs.Walks.{each}

@@ -4,9 +4,9 @@ use Rattle.std.specs.Option.{option_map, option_to_list}
 use denote.Ref.{Bor}
 use Rattle.vtl_syntax.specs.declared.expr.Expr.{Expr, size-Expr}
 use Rattle.vtl_syntax.specs.declared.expr.SubstrRange.{SubstrRange, out-SubstrRange}
-use Rattle.typing_rules.specs.declared.stop.Refusal.{Refusal}
-use Rattle.typing_rules.specs.declared.stop.TypeStop.{TypeStop}
-use Rattle.typing_rules.specs.Steps.{◌>>=◌, Refuses}
+use Rattle.scalar_trees.specs.declared.typing.stop.Refusal.{Refusal}
+use Rattle.scalar_trees.specs.declared.typing.stop.TypeStop.{TypeStop}
+use Rattle.scalar_trees.specs.typing.Steps.{◌>>=◌, Refuses}
 use Rattle.data_set_trees.specs.declared.operand.Operand.{Operand}
 use Rattle.data_set_trees.specs.Trees.{SetAnswer}
 use Rattle.expression_rules.specs.Expressions.{Naming, Typing, typing, all_typed, typed}

@@ -9,9 +9,9 @@ ghost use Rattle.statement_typing.specs.Parts.{Answers, TypesParts, if_some, of_
 
 use crate::names::Names;
 use data_set_trees::Operand;
+use scalar_trees::typing::TypeStop;
 use sqlite_items::{Boxed, Items};
 use std::alloc::Global;
-use typing_rules::TypeStop;
 use vtl_syntax::{Expr, SubstrRange};
 
 /// Types one level of an expression; `expression` types each expression that stands in it. So each function is proved by

@@ -1,20 +1,20 @@
 // A clause on an operand.
 ghost use Rattle.std.specs.Prelude.{◌≡◌, Ok, IfOk, IfErr};
 ghost use Rattle.vtl_syntax.specs.declared.expr.Clause.TheVariants as clause;
-ghost use Rattle.typing_rules.specs.Scalars.{place_of};
+ghost use Rattle.scalar_trees.specs.typing.Scalars.{place_of};
 ghost use Rattle.data_set_trees.specs.declared.operand.Operand.TheVariants as operands;
 ghost use Rattle.expression_rules.specs.OnClauses as meant;
 ghost use Rattle.statement_typing.specs.Parts.{Answers};
 
 use crate::items::{calc_checked, filter_checked};
 use crate::on_sets::on_aggr;
-use clause_trees::{CheckedClause, Frame};
 use clause_typing::{drop_typed, frame_of, keep_typed, rename_typed, sub_typed, unpivot_typed};
 use data_set_parts::clauses::with_clause;
+use data_set_trees::clauses::{CheckedClause, Frame};
 use data_set_trees::{DataSet, Operand};
+use scalar_trees::typing::{Fault, TypeStop};
 use sqlite_items::Boxed;
 use std::alloc::Global;
-use typing_rules::{Fault, TypeStop};
 use vtl_syntax::Clause;
 use vtl_values::Place;
 

@@ -1,6 +1,6 @@
 // Expressions outside of clauses.
 ghost use Rattle.std.specs.Prelude.{◌≡◌, Ok, IfOk, IfErr};
-ghost use Rattle.typing_rules.specs.Steps.{Refuses};
+ghost use Rattle.scalar_trees.specs.typing.Steps.{Refuses};
 ghost use Rattle.expression_rules.specs.Expressions.{typed};
 ghost use Rattle.statement_typing.specs.Names.{naming_of};
 ghost use Rattle.statement_typing.specs.Parts.{Answers};
@@ -8,8 +8,8 @@ ghost use Rattle.statement_typing.specs.Parts.{Answers};
 use crate::checker::Checker;
 use crate::names::Names;
 use data_set_trees::Operand;
+use scalar_trees::typing::TypeStop;
 use std::alloc::Global;
-use typing_rules::TypeStop;
 use vtl_syntax::Expr;
 
 fn types(alloc: Global, names: &Names<'_>, tree: &Expr) -> Result<Operand, TypeStop>

@@ -1,16 +1,16 @@
 // The expressions in clauses, which are worked out on the operand's point.
 ghost use Rattle.std.specs.Prelude.{◌≡◌, Ok, IfOk, IfErr};
 ghost use Rattle.vtl_syntax.specs.declared.expr.Clause.TheOpen.{Clause-F};
-ghost use Rattle.clause_trees.specs.Frames as frames;
+ghost use Rattle.data_set_trees.specs.clauses.Frames as frames;
 ghost use Rattle.expression_rules.specs.OnClauses as meant;
 ghost use Rattle.statement_typing.specs.Parts.{Answers};
 
-use clause_trees::{CheckedClause, CheckedItem, Frame};
 use clause_typing::{calc_typed, filter_typed, item_typed, scope_of_frame};
 use component_typing::check_operand;
+use data_set_trees::clauses::{CheckedClause, CheckedItem, Frame};
+use scalar_trees::typing::{Basis, Scope, TypeStop};
 use sqlite_items::Items;
 use std::alloc::Global;
-use typing_rules::{Basis, Scope, TypeStop};
 use vtl_syntax::{Expr, Item};
 use vtl_values::Place;
 

@@ -1,8 +1,8 @@
 // One level of an expression.
 ghost use Rattle.std.specs.Prelude.{Ok};
-ghost use Rattle.typing_rules.specs.declared.stop.Fault.TheVariants.{WrongStructure};
-ghost use Rattle.typing_rules.specs.Scalars.{literal_typed};
-ghost use Rattle.typing_rules.specs.Steps.{refused};
+ghost use Rattle.scalar_trees.specs.declared.typing.stop.Fault.TheVariants.{WrongStructure};
+ghost use Rattle.scalar_trees.specs.typing.Scalars.{literal_typed};
+ghost use Rattle.scalar_trees.specs.typing.Steps.{refused};
 ghost use Rattle.data_set_trees.specs.declared.operand.Operand.{Operand};
 ghost use Rattle.data_set_trees.specs.declared.operand.Operand.TheVariants as operands;
 ghost use Rattle.expression_rules.specs.Expressions as meant;
@@ -19,8 +19,8 @@ use operator_typing::{
     sum_operator, unary_operator,
 };
 use scalar_trees::BinaryOperator;
+use scalar_trees::typing::{Fault, TypeStop};
 use std::alloc::Global;
-use typing_rules::{Fault, TypeStop};
 use vtl_syntax::Expr;
 use vtl_values::{Place, Value, Word};
 
@@ -224,7 +224,14 @@ impl<F: Fn(Global, &Names<'_>, &Expr) -> Result<Operand, TypeStop> + Copy> Check
             Expr::CheckDatapoint { place, .. } => misplaced(*place),
             Expr::Hierarchy { place, .. } => misplaced(*place),
             Expr::CheckHierarchy { place, .. } => misplaced(*place),
-            Expr::Check { place, .. } => misplaced(*place),
+            Expr::Check {
+                operand,
+                code,
+                level,
+                imbalance,
+                output,
+                place,
+            } => self.check(operand, code, *level, imbalance, *output, *place),
             Expr::Time {
                 function,
                 operand,

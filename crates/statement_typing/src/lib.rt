@@ -1,17 +1,19 @@
 //! What an expression outside of clauses is checked to be, a data set or a scalar, or its first fault.
 //!
-//! It stands on `data_set_trees` for the trees and on `expression_rules` for the definitions, on `data_set_typing`, `set_typing` and `join_typing` for
-//! operators, on `clause_typing` and `component_typing` for clauses and the expressions in them, and on `aggregate_typing`,
-//! `window_typing` and `time_typing` for other operators on one data set. `names` has what the names of data sets stand
-//! for. `checker` types one level of an expression, by `operators`, `data_sets`, `joins`, `clauses` and `series`; `level`
-//! has one row for each form, and `expression` adds the walk over the tree.
+//! It stands on `data_set_trees` for the trees and on `expression_rules` for the definitions, on `data_set_typing`,
+//! `set_typing` and `join_typing` for operators, on `clause_typing` and `component_typing` for clauses and the
+//! expressions in them, and on `aggregate_typing`, `window_typing` and `time_typing` for other operators on one data
+//! set. `names` has what the names of data sets stand for. `checker` types one level of an expression, by `operators`,
+//! `data_sets`, `checks`, `joins`, `clauses` and `series`; `level` has one row for each form, and `expression` adds the
+//! walk over the tree.
 //!
 //! The contract of `check_expression` promises that an answer is exactly the operand that `expression_rules` says
-//! (`specs/Expressions.antt`, `typed`), where names stand for what `specs/Names.antt` says, and that an error is exactly the
-//! first fault that it says, at its place, or want of memory.
+//! (`specs/Expressions.antt`, `typed`), where names stand for what `specs/Names.antt` says, and that an error is
+//! exactly the first fault that it says, at its place, or want of memory.
 #![tactic(auto)]
 
 mod checker;
+mod checks;
 mod clauses;
 mod data_sets;
 mod expression;

@@ -1,30 +1,30 @@
 // Aggregates, analytic operators and operators on time series, on one data set.
 ghost use Rattle.std.specs.Prelude.{◌≡◌, IfOk};
 ghost use Rattle.vtl_values.specs.Structures.{IsStructure};
-ghost use Rattle.aggregate_trees.specs.Results.{grouped};
-ghost use Rattle.time_trees.specs.Times as times;
+ghost use Rattle.data_set_trees.specs.aggregates.Results.{grouped};
+ghost use Rattle.data_set_trees.specs.times.Times as times;
 ghost use Rattle.data_set_trees.specs.declared.operand.Operand.TheVariants as operands;
 ghost use Rattle.data_set_trees.specs.declared.tree.DataSetOperator.TheVariants as operator;
 ghost use Rattle.expression_rules.specs.OnSets as rules;
 ghost use Rattle.statement_typing.specs.Parts.{Answers};
 
-use aggregate_trees::CheckedAggregate;
 use aggregate_typing::{aggr_typed, aggregate_typed};
 use clause_typing::frame_of;
 use data_set_parts::clauses::on_one;
 use data_set_parts::results::plain;
+use data_set_trees::aggregates::CheckedAggregate;
+use data_set_trees::times::CheckedTime;
+use data_set_trees::windows::CheckedWindow;
 use data_set_trees::{DataSet, DataSetOperator, Operand};
+use scalar_trees::typing::{Fault, TypeStop};
 use sqlite_items::Boxed;
 use std::alloc::{AllocError, Global};
-use time_trees::CheckedTime;
 use time_typing::{fill_typed, shift_typed, time_typed};
-use typing_rules::{Fault, TypeStop};
 use vtl_syntax::words::{
     AggregateFunction, FillSpan, OffsetFunction, TimeFunction, WindowFunction,
 };
 use vtl_syntax::{Groups, Item, Over};
 use vtl_values::{Integer, Place};
-use window_trees::CheckedWindow;
 use window_typing::{frame_after, offset_on, window_on};
 
 /// The operand as a data set; `WrongStructure` where it is a scalar.

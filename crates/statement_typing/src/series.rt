@@ -9,9 +9,9 @@ use crate::checker::Checker;
 use crate::names::Names;
 use crate::on_sets::{on_aggregate, on_fill, on_offset, on_shift, on_time, on_window};
 use data_set_trees::Operand;
+use scalar_trees::typing::TypeStop;
 use sqlite_items::Boxed;
 use std::alloc::Global;
-use typing_rules::TypeStop;
 use vtl_syntax::words::{
     AggregateFunction, FillSpan, OffsetFunction, TimeFunction, WindowFunction,
 };

@@ -6,8 +6,8 @@ ghost use Rattle.statement_typing.specs.Parts.{Answers};
 
 use data_set_trees::{DataSet, Operand};
 use operator_typing::sort_typed;
+use scalar_trees::typing::{Fault, TypeStop, Typed};
 use std::alloc::Global;
-use typing_rules::{Fault, TypeStop, Typed};
 use vtl_syntax::words::Sort;
 use vtl_values::Place;
 

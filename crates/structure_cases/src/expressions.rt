@@ -2,9 +2,9 @@
 use crate::words::{kind_word, shown};
 use anyhow::{Result, bail};
 use data_set_trees::Operand;
+use scalar_trees::typing::{Refusal, TypeStop};
 use statement_typing::{Names, check_expression};
 use std::alloc::Global;
-use typing_rules::{Refusal, TypeStop};
 use vtl_lexer::tokens;
 use vtl_parser::parse;
 use vtl_syntax::Script;

@@ -5,12 +5,12 @@ use Rattle.vtl_values.specs.declared.place.Place.{Place}
 use Rattle.vtl_values.specs.declared.structure.Component.{Component}
 use Rattle.vtl_syntax.specs.declared.words.FillSpan.{FillSpan}
 use Rattle.vtl_syntax.specs.declared.words.TimeFunction.{TimeFunction}
-use Rattle.typing_rules.specs.declared.stop.Fault.TheVariants.{WrongType, WrongStructure, NameTwice, TooManyComponents, BadConstant}
-use Rattle.typing_rules.specs.Steps.{◌>>=◌, or_refused}
+use Rattle.scalar_trees.specs.declared.typing.stop.Fault.TheVariants.{WrongType, WrongStructure, NameTwice, TooManyComponents, BadConstant}
+use Rattle.scalar_trees.specs.typing.Steps.{◌>>=◌, or_refused}
 use Rattle.operator_typing.proofs.Steps.{goes_on}
-use Rattle.clause_trees.specs.Clauses.{demands}
-use Rattle.time_trees.specs.declared.time.CheckedTime.TheVariants as time
-use Rattle.time_trees.specs.Times.{Answer, MOST_PLACES, fill_checked, finds_room, period_number, shift_checked, stands_apart, takes_kinds, time_checked}
+use Rattle.data_set_trees.specs.clauses.Clauses.{demands}
+use Rattle.data_set_trees.specs.declared.times.time.CheckedTime.TheVariants as time
+use Rattle.data_set_trees.specs.times.Times.{Answer, MOST_PLACES, fill_checked, finds_room, period_number, shift_checked, stands_apart, takes_kinds, time_checked}
 
 module _ (f : TimeFunction) (place : Place) (cs : List Component) where
   last : ℕ → Answer

@@ -2,16 +2,16 @@
 ghost use Rattle.std.specs.Prelude.{◌≡◌, ℕ, not, codes, IfOk};
 ghost use Rattle.vtl_values.specs.declared.kind.Kind.TheVariants.{Text};
 ghost use Rattle.vtl_values.specs.declared.kind.Role.TheVariants.{Attribute, Measure};
-ghost use Rattle.clause_trees.specs.After as clauses;
-ghost use Rattle.clause_trees.specs.Frames as frames;
-ghost use Rattle.time_trees.specs.declared.time.CheckedTime.TheVariants.{Of};
-ghost use Rattle.time_trees.specs.Times as meant;
+ghost use Rattle.data_set_trees.specs.clauses.After as clauses;
+ghost use Rattle.data_set_trees.specs.clauses.Frames as frames;
+ghost use Rattle.data_set_trees.specs.declared.times.time.CheckedTime.TheVariants.{Of};
+ghost use Rattle.data_set_trees.specs.times.Times as meant;
 
 use clause_typing::{has_role, made};
+use data_set_trees::times::CheckedTime;
 use result_components::{by_role, numbers_of, with_numbers};
 use sqlite_items::Items;
 use std::alloc::{AllocError, Global};
-use time_trees::CheckedTime;
 use vtl_syntax::words::TimeFunction;
 use vtl_values::{Component, Kind, Role, Word};
 

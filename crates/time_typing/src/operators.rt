@@ -4,20 +4,20 @@ ghost use Rattle.vtl_values.specs.declared.kind.Role.TheVariants.{Measure};
 ghost use Rattle.vtl_values.specs.Structures.{IsStructure};
 ghost use Rattle.vtl_syntax.specs.declared.words.TimeFunction.TheVariants.{PeriodIndicator};
 ghost use Rattle.scalar_trees.specs.Kinds as kinds;
-ghost use Rattle.typing_rules.specs.declared.stop.Fault.TheVariants.{NameTwice, TooManyComponents};
-ghost use Rattle.typing_rules.specs.Steps.{Refuses};
-ghost use Rattle.clause_trees.specs.Clauses as clauses;
-ghost use Rattle.clause_trees.specs.Frames as frames;
-ghost use Rattle.time_trees.specs.Times as meant;
+ghost use Rattle.scalar_trees.specs.declared.typing.stop.Fault.TheVariants.{NameTwice, TooManyComponents};
+ghost use Rattle.scalar_trees.specs.typing.Steps.{Refuses};
+ghost use Rattle.data_set_trees.specs.clauses.Clauses as clauses;
+ghost use Rattle.data_set_trees.specs.clauses.Frames as frames;
+ghost use Rattle.data_set_trees.specs.times.Times as meant;
 
 use crate::after::with_duration;
 use crate::period::period_of;
 use clause_typing::{demands, has_role};
+use data_set_trees::times::CheckedTime;
 use result_components::{has_room, names_differ};
 use scalar_trees::agreed;
+use scalar_trees::typing::{Fault, TypeStop};
 use std::alloc::Global;
-use time_trees::CheckedTime;
-use typing_rules::{Fault, TypeStop};
 use vtl_syntax::words::{FillSpan, TimeFunction};
 use vtl_values::{Component, Integer, Kind, Place, Role};
 

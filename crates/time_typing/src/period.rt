@@ -3,12 +3,12 @@ ghost use Rattle.std.specs.Prelude.{◌≡◌, Ok, IfOk, IfErr};
 ghost use Rattle.vtl_values.specs.Texts.{same_text};
 ghost use Rattle.vtl_values.specs.declared.kind.Kind.TheVariants.{Text};
 ghost use Rattle.scalar_trees.specs.WellTyped.{is_kind};
-ghost use Rattle.typing_rules.specs.declared.stop.Fault.TheVariants.{WrongStructure};
-ghost use Rattle.typing_rules.specs.Steps.{Refuses, or_refused};
-ghost use Rattle.time_trees.specs.Times as meant;
+ghost use Rattle.scalar_trees.specs.declared.typing.stop.Fault.TheVariants.{WrongStructure};
+ghost use Rattle.scalar_trees.specs.typing.Steps.{Refuses, or_refused};
+ghost use Rattle.data_set_trees.specs.times.Times as meant;
 
 use clause_typing::has_role;
-use typing_rules::{Fault, TypeStop};
+use scalar_trees::typing::{Fault, TypeStop};
 use vtl_values::{Component, Kind, Place, Role, Word};
 
 fn is_period_name(name: &Word) -> bool

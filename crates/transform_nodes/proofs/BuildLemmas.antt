@@ -17,12 +17,12 @@ use Rattle.data_set_trees.specs.declared.tree.DataSetTree.TheOpen.{DataSetTree-F
 use Rattle.data_set_trees.specs.declared.tree.DataSetTree.TheVariants.{Name, rolls-Name}
 use Rattle.data_set_trees.specs.declared.tree.Source.{Source}
 use Rattle.data_set_trees.specs.declared.tree.Source.TheVariants.{Input, Result as ResultOf}
-use Rattle.checked_trees.specs.Operators.{Operator}
-use Rattle.checked_trees.specs.Expressions.{Expression, Expressions, Named, Applied, expression_of, expressions, all_renamed, name_step, node_step, more as operand_and, expression_of_node}
-use Rattle.checked_trees.specs.Scripts.{is_same, names_in, names_in_all, once_each}
-use Rattle.checked_trees.specs.Typing.{HaveStructures}
-use Rattle.checked_trees.specs.declared.script.CheckedStatement.{CheckedStatement}
-use Rattle.typing_rules.proofs.Sound.{left, right}
+use Rattle.data_set_trees.specs.checked.Operators.{Operator}
+use Rattle.data_set_trees.specs.checked.Expressions.{Expression, Expressions, Named, Applied, expression_of, expressions, all_renamed, name_step, node_step, more as operand_and, expression_of_node}
+use Rattle.data_set_trees.specs.checked.Scripts.{is_same, names_in, names_in_all, once_each}
+use Rattle.data_set_trees.specs.checked.Typing.{HaveStructures}
+use Rattle.data_set_trees.specs.declared.checked.script.CheckedStatement.{CheckedStatement}
+use Rattle.scalar_trees.proofs.typing.Sound.{left, right}
 use Rattle.built_scripts.specs.Built.{all_built, each_all_built, is_built, is_statement_built}
 use Rattle.operator_meaning.specs.Operators.{meaning_of}
 use Rattle.operator_meaning.specs.Results.{Wrong, Evaluated, sets_of, results_of}

@@ -11,9 +11,9 @@ use Rattle.point_sets.specs.DataSets.{DataSet}
 use Rattle.point_sets.specs.Changes.{Changes}
 use Rattle.data_set_trees.specs.declared.tree.Source.{Source}
 use Rattle.data_set_trees.specs.declared.tree.Source.TheVariants.{Result as ResultOf}
-use Rattle.checked_trees.specs.Expressions.{expression_of, renamed}
-use Rattle.checked_trees.specs.Scripts.{Script, IsChecked}
-use Rattle.checked_trees.specs.Typing.{HasStructure}
+use Rattle.data_set_trees.specs.checked.Expressions.{expression_of, renamed}
+use Rattle.data_set_trees.specs.checked.Scripts.{Script, IsChecked}
+use Rattle.data_set_trees.specs.checked.Typing.{HasStructure}
 use Rattle.operator_meaning.specs.Results.{Wrong, Evaluated, result_of}
 use Rattle.operator_meaning.specs.Scripts.{Has, state_of, states}
 use Rattle.release_text.specs.Releases.{Page, page_of}

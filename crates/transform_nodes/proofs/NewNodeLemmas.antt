@@ -7,11 +7,11 @@ use Rattle.std.specs.List.{list_all}
 use Rattle.std.proofs.lemmas.Bool.{cases_lt}
 use Rattle.std.proofs.lemmas.Option.{slice_get_within}
 use Rattle.point_sets.specs.DataSets.{DataSet}
-use Rattle.checked_trees.specs.declared.script.CheckedStatement.{CheckedStatement}
+use Rattle.data_set_trees.specs.declared.checked.script.CheckedStatement.{CheckedStatement}
 use Rattle.data_set_trees.specs.declared.tree.Source.{Source}
 use Rattle.data_set_trees.specs.declared.tree.Source.TheVariants.{Input, Result as ResultOf}
-use Rattle.checked_trees.specs.Expressions.{expression_of, renamed}
-use Rattle.checked_trees.specs.Scripts.{Script, IsChecked, names_in, names_result, once_each, structure_of_source}
+use Rattle.data_set_trees.specs.checked.Expressions.{expression_of, renamed}
+use Rattle.data_set_trees.specs.checked.Scripts.{Script, IsChecked, names_in, names_result, once_each, structure_of_source}
 use Rattle.built_scripts.specs.Built.{is_statement_built}
 use Rattle.operator_meaning.specs.Results.{without_points}
 use Rattle.operator_meaning.specs.Scripts.{State, Idle, set_in}

@@ -2,7 +2,7 @@
 use Rattle.std.proofs.Common.{◌≡◌, ℕ, suc, List, [], ◌∷◌, length, Option, refl, sym, ◌∙◌, ap, subst, arith, slice_get}
 use Rattle.std.specs.Option.{IsSomeAnd}
 use Rattle.data_set_trees.specs.declared.tree.Source.{Source as SourceName}
-use Rattle.checked_trees.specs.Scripts.{Script, sources_of, uses_of}
+use Rattle.data_set_trees.specs.checked.Scripts.{Script, sources_of, uses_of}
 use Rattle.operator_meaning.specs.Scripts.{states}
 use Rattle.point_sets.specs.DataSets.{DataSet}
 use Rattle.held_index.specs.Holdings.{Holding}

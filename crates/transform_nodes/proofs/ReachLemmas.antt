@@ -17,7 +17,7 @@ use Rattle.point_sets.specs.DataSets.{DataSet}
 use Rattle.point_sets.specs.Changes.{Changes, values_eq}
 use Rattle.point_sets.proofs.Changes.{values_eq-IsEqualityTest}
 use Rattle.data_set_trees.specs.declared.tree.Source.{Source as Named}
-use Rattle.checked_trees.specs.Scripts.{Script}
+use Rattle.data_set_trees.specs.checked.Scripts.{Script}
 use Rattle.operator_meaning.specs.Results.{Evaluated, Wrong, sets_of, results_of}
 use Rattle.held_index.specs.Holdings.{Holding}
 use Rattle.held_index.specs.Reach.{changes_in}

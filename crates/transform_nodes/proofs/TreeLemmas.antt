@@ -12,8 +12,8 @@ use Rattle.data_model.specs.Deltas.{Leads}
 use Rattle.data_model.specs.Outcomes.{Made}
 use Rattle.point_sets.specs.DataSets.{DataSet}
 use Rattle.point_sets.specs.Changes.{Changes}
-use Rattle.checked_trees.specs.Expressions.{Applied, more as operand_and}
-use Rattle.checked_trees.specs.Typing.{HaveStructures}
+use Rattle.data_set_trees.specs.checked.Expressions.{Applied, more as operand_and}
+use Rattle.data_set_trees.specs.checked.Typing.{HaveStructures}
 use Rattle.operator_meaning.specs.Operators.{meaning_of}
 use Rattle.operator_meaning.specs.Results.{Wrong, Evaluated, sets_of, points_of, placed, worked, gathered, result_of, results_of}
 use Rattle.operator_meaning.proofs.FitLemmas.{gathered-ok, results_of-fit}

@@ -7,21 +7,21 @@ use Rattle.std.proofs.lemmas.List.Filters.{length-filter_both}
 use Rattle.std.proofs.lemmas.List.Quantifiers.{position-Some}
 use Rattle.vtl_values.specs.declared.kind.Role.TheVariants.{Identifier}
 use Rattle.vtl_values.specs.declared.structure.Component.{Component}
-use Rattle.clause_trees.specs.Frames.{has_role}
-use Rattle.clause_trees.specs.declared.clause.CheckedMeasure.{CheckedMeasure}
+use Rattle.data_set_trees.specs.clauses.Frames.{has_role}
+use Rattle.data_set_trees.specs.declared.clauses.clause.CheckedMeasure.{CheckedMeasure}
 use Rattle.vtl_syntax.specs.declared.words.ExistsRows.{ExistsRows}
 use Rattle.vtl_syntax.specs.declared.words.JoinFunction.TheVariants as joining
 use Rattle.data_set_trees.specs.Components.{identifiers, has_name}
 use Rattle.data_set_trees.specs.declared.tree.DataSetOperator.{DataSetOperator}
 use Rattle.data_set_trees.specs.declared.tree.DataSetOperator.TheVariants as operator
-use Rattle.checked_trees.specs.Operators.{an_operator, Operator, IsTyped, TakesOperands}
+use Rattle.data_set_trees.specs.checked.Operators.{an_operator, Operator, IsTyped, TakesOperands}
 use Rattle.held_index.specs.declared.want.Want.{Want}
 use Rattle.held_index.specs.Wants.{all_whole, in_parts, whole}
 use Rattle.held_index.proofs.WantLemmas.{all_whole-each, in_parts-fits, whole-fits}
-use Rattle.pair_meaning.specs.Pairs.{PairOn, is_left_main, main, partner}
+use Rattle.operator_meaning.specs.pairs.Pairs.{PairOn, is_left_main, main, partner}
 use Rattle.pair_eval.specs.Plans.{partner_numbers}
 use Rattle.pair_ops.specs.Rules as pair
-use Rattle.exists_meaning.specs.Exists.{exists_on}
+use Rattle.operator_meaning.specs.exists.Exists.{exists_on}
 use Rattle.exists_ops.specs.Parts.{left_want, right_want}
 use Rattle.exists_ops.specs.Rules as exists
 use Rattle.exists_ops.proofs.Wanted.{left-fits, right-fits}

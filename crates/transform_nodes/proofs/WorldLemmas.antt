@@ -10,12 +10,12 @@ use Rattle.vtl_values.specs.declared.structure.Component.{Component}
 use Rattle.data_model.specs.Deltas.{Leads}
 use Rattle.point_sets.specs.DataSets.{DataSet}
 use Rattle.point_sets.specs.Changes.{Changes}
-use Rattle.checked_trees.specs.declared.script.CheckedStatement.{CheckedStatement}
+use Rattle.data_set_trees.specs.declared.checked.script.CheckedStatement.{CheckedStatement}
 use Rattle.data_set_trees.specs.declared.tree.Source.{Source}
 use Rattle.data_set_trees.specs.declared.tree.Source.TheVariants.{Input, Result as ResultOf}
-use Rattle.checked_trees.specs.Expressions.{Expression, Expressions, Named, Applied, expression_of, renamed, all_renamed, none as no_operand, more as operand_and}
-use Rattle.checked_trees.specs.Scripts.{Script, IsChecked, is_same, names_in, names_of, once_each, sources_of, structure_of_source}
-use Rattle.checked_trees.specs.Typing.{HasStructure, HaveStructures}
+use Rattle.data_set_trees.specs.checked.Expressions.{Expression, Expressions, Named, Applied, expression_of, renamed, all_renamed, none as no_operand, more as operand_and}
+use Rattle.data_set_trees.specs.checked.Scripts.{Script, IsChecked, is_same, names_in, names_of, once_each, sources_of, structure_of_source}
+use Rattle.data_set_trees.specs.checked.Typing.{HasStructure, HaveStructures}
 use Rattle.structured_sets.specs.Fitting.{IsBoundedSetOf}
 use Rattle.operator_meaning.specs.Results.{Evaluated, worked, gathered, result_of, results_of}
 use Rattle.operator_meaning.specs.Scripts.{State, Has, Idle, state_of, set_in, states, worked_out}

@@ -5,9 +5,9 @@ use Rattle.std.specs.List.{All, AllZip, list_any}
 use Rattle.vtl_values.specs.declared.structure.Component.{Component}
 use Rattle.data_set_trees.specs.declared.tree.DataSetTree.{DataSetTree}
 use Rattle.data_set_trees.specs.declared.tree.Source.{Source}
-use Rattle.checked_trees.specs.Expressions.{Expression, expression_of, renamed}
-use Rattle.checked_trees.specs.Scripts.{is_same, names_in}
-use Rattle.checked_trees.specs.Typing.{HasStructure}
+use Rattle.data_set_trees.specs.checked.Expressions.{Expression, expression_of, renamed}
+use Rattle.data_set_trees.specs.checked.Scripts.{is_same, names_in}
+use Rattle.data_set_trees.specs.checked.Typing.{HasStructure}
 use Rattle.built_scripts.specs.Built.{all_built}
 use Rattle.held_index.specs.Holdings.{Holding, FitsStructure}
 use Rattle.held_index.specs.declared.want.Want.{Want}

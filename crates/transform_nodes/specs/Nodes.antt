@@ -8,11 +8,11 @@ use Rattle.std.specs.FinMap.{empty}
 use Rattle.data_model.specs.Deltas.{Leads}
 use Rattle.point_sets.specs.DataSets.{DataSet}
 use Rattle.point_sets.specs.Changes.{Changes}
-use Rattle.checked_trees.specs.declared.script.CheckedStatement.{CheckedStatement}
+use Rattle.data_set_trees.specs.declared.checked.script.CheckedStatement.{CheckedStatement}
 use Rattle.data_set_trees.specs.declared.tree.Source.{Source}
 use Rattle.data_set_trees.specs.declared.tree.Source.TheVariants.{Result as ResultOf}
-use Rattle.checked_trees.specs.Expressions.{expression_of, renamed}
-use Rattle.checked_trees.specs.Scripts.{Script, IsChecked, sources_of, uses_of}
+use Rattle.data_set_trees.specs.checked.Expressions.{expression_of, renamed}
+use Rattle.data_set_trees.specs.checked.Scripts.{Script, IsChecked, sources_of, uses_of}
 use Rattle.operator_meaning.specs.Operators.{AreOperands}
 use Rattle.operator_meaning.specs.Results.{Evaluated}
 use Rattle.operator_meaning.specs.Scripts.{Has, Fails, set_named, states}

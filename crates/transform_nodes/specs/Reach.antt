@@ -5,7 +5,7 @@ use Rattle.data_model.specs.Deltas.{delta_between}
 use Rattle.point_sets.specs.DataSets.{DataSet}
 use Rattle.point_sets.specs.Changes.{Changes, values_eq}
 use Rattle.operator_meaning.specs.Results.{Evaluated, Wrong, sets_of, results_of}
-use Rattle.checked_trees.specs.Scripts.{Script}
+use Rattle.data_set_trees.specs.checked.Scripts.{Script}
 use Rattle.held_index.specs.Holdings.{Holding}
 use Rattle.transform_nodes.specs.Nodes.{numbered, settled_tree}
 use Rattle.transform_nodes.specs.Rules.{reach_of}

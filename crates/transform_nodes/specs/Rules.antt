@@ -1,6 +1,6 @@
 -- Rules of any operator. Most proofs go by the operator, the wants and the reach of a rule, whichever its family is.
 use Rattle.std.specs.Prelude.{ℕ, List, [], length}
-use Rattle.checked_trees.specs.Operators.{Operator}
+use Rattle.data_set_trees.specs.checked.Operators.{Operator}
 use Rattle.point_sets.specs.Changes.{Changes}
 use Rattle.held_index.specs.Holdings.{Holding}
 use Rattle.held_index.specs.declared.want.Want.{Want}

@@ -10,8 +10,8 @@ use Rattle.data_model.specs.Outcomes.{Made}
 use Rattle.data_model.specs.declared.TheConstants.{POINT_LIMIT}
 use Rattle.point_sets.specs.DataSets.{DataSet}
 use Rattle.point_sets.specs.Changes.{Changes}
-use Rattle.checked_trees.specs.Operators.{IsTyped}
-use Rattle.checked_trees.specs.Typing.{HasStructure, HaveStructures}
+use Rattle.data_set_trees.specs.checked.Operators.{IsTyped}
+use Rattle.data_set_trees.specs.checked.Typing.{HasStructure, HaveStructures}
 use Rattle.operator_meaning.specs.Operators.{meaning_of, AreOperands}
 use Rattle.structured_sets.specs.Fitting.{IsBoundedSetOf}
 use Rattle.operator_meaning.specs.Results.{Evaluated, sets_of, points_of, placed, result_of, results_of}

@@ -5,7 +5,7 @@ use Rattle.vtl_values.specs.declared.place.Place.{Place}
 use Rattle.data_model.specs.Outcomes.{Made}
 use Rattle.data_model.specs.declared.TheConstants.{POINT_LIMIT}
 use Rattle.point_sets.specs.DataSets.{DataSet}
-use Rattle.checked_trees.specs.Expressions.{Expression, Expressions, Named, Applied, none as no_operand, more as operand_and}
+use Rattle.data_set_trees.specs.checked.Expressions.{Expression, Expressions, Named, Applied, none as no_operand, more as operand_and}
 use Rattle.held_index.specs.Holdings.{Holding, holding_of}
 use Rattle.operator_meaning.specs.Operators.{meaning_of}
 use Rattle.operator_meaning.specs.Results.{Wrong, Evaluated, sets_of, results_of}

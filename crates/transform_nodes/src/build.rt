@@ -2,16 +2,16 @@
 ghost use Rattle.std.specs.Prelude.{◌≡◌, ◌++◌, ◌∷◌, [], IfOk, OnOk, Some, count_by, is_some, map, slice_get, if◌then◌else◌};
 ghost use Rattle.std.specs.FinMap.{empty};
 ghost use Rattle.std.specs.Option.{IfSome};
-ghost use Rattle.checked_trees.specs.Expressions.{expression_of, expressions, expression_of_node};
-ghost use Rattle.checked_trees.specs.Scripts as scripts;
-ghost use Rattle.checked_trees.specs.Scripts.{names_in, names_in_all, names_result};
+ghost use Rattle.data_set_trees.specs.checked.Expressions.{expression_of, expressions, expression_of_node};
+ghost use Rattle.data_set_trees.specs.checked.Scripts as scripts;
+ghost use Rattle.data_set_trees.specs.checked.Scripts.{names_in, names_in_all, names_result};
 ghost use Rattle.transform_nodes.specs.Building.{is_among, nothing_held, AllCanBuild, AreBuilt, AreWanted, CanBuild, IsBuilt};
 ghost use Rattle.transform_nodes.specs.Nodes.{published};
 ghost use Rattle.transform_nodes.specs.Trees.{plain, plain_tree, plains_of, Operates};
 
 use crate::node::{Child, OpTree};
 use crate::rule::Rule;
-use checked_trees::CheckedStatement;
+use data_set_trees::checked::CheckedStatement;
 use data_set_trees::{DataSetNode, DataSetTree, Source};
 use held_index::{DeltaRule, Held, Want};
 use release_text::Pages;

@@ -34,7 +34,7 @@ pub enum Rule {
 }
 
 impl Rule {
-    ghost use Rattle.checked_trees.specs.Operators.{an_operator, IsTyped};
+    ghost use Rattle.data_set_trees.specs.checked.Operators.{an_operator, IsTyped};
     ghost use Rattle.built_scripts.specs.Built.{is_built};
     ghost use Rattle.transform_nodes.specs.Rules.{operator_of};
 

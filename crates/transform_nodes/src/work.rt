@@ -82,7 +82,7 @@ impl Work {
     ghost use Rattle.std.specs.Arc.{arc_value};
     ghost use Rattle.held_index.specs.Reach.{changes_in};
     ghost use Rattle.point_sets.specs.DataSets.{DataSet};
-    ghost use Rattle.checked_trees.specs.Scripts.{Script};
+    ghost use Rattle.data_set_trees.specs.checked.Scripts.{Script};
     ghost use Rattle.transform_nodes.specs.Nodes.{CanRun, DoneStandsFor, WorkStandsFor};
     ghost use Rattle.transform_nodes.specs.Reach.{work_reach};
     ghost use Rattle.transform_nodes.specs.declared.work.Finish.TheVariants.{GaveUp};

@@ -1,5 +1,5 @@
 -- Forms that have lists in them.
-use Rattle.std.proofs.Common.{◌≡◌, refl, ℕ, Bool, true, ◌&&◌, List, Option, Some, None, sym, ap, ◌∙◌}
+use Rattle.std.proofs.Common.{◌≡◌, refl, Bool, true, ◌&&◌, List, Option, Some, None, sym, ap, ◌∙◌}
 use Rattle.std.specs.Prelude.{option_map}
 use Rattle.std.specs.List.{list_all}
 use Rattle.std.proofs.lemmas.List.Folds.{list_all-map}
@@ -18,7 +18,7 @@ use Rattle.vtl_syntax.specs.declared.words.SetFunction.{SetFunction}
 use Rattle.vtl_syntax.proofs.Maps.{maps-Join}
 use Rattle.typed_forms.specs.declared.stand.Stand.{Stand}
 use Rattle.typed_forms.specs.declared.stand.Stand.TheVariants.{Outside, Item as Whole, Inside}
-use Rattle.typed_forms.specs.Forms.{Typed, of_part, if_outside, if_given, if_typed, all_typed, expr_step, clause_step, groups_step, item_step, operand_step, range_step, expr_typed, clause_typed, groups_typed, item_typed, operand_typed, range_typed}
+use Rattle.typed_forms.specs.Forms.{Typed, of_part, if_outside, if_given, if_typed, expr_step, clause_step, groups_step, item_step, operand_step, range_step, expr_typed, clause_typed, groups_typed, item_typed, operand_typed, range_typed}
 
 told : (x : Expr-F Clause Expr Groups Item JoinOperand SubstrRange) (e : Expr) (at : Stand) → roll-Expr x ≡ e → expr_typed e at ≡ expr_step (map-Expr Clause Expr Groups Item JoinOperand SubstrRange Typed Typed Typed Typed Typed Typed clause_typed expr_typed groups_typed item_typed operand_typed range_typed x) at
 told x e at is = ap (λ (d : Expr). expr_typed d at) (sym is) ∙ ap (λ (m : Typed). m at) (fold-roll-Expr Typed Typed Typed Typed Typed Typed clause_step expr_step groups_step item_step operand_step range_step x)

@@ -55,7 +55,7 @@ all_typed ts at = list_all (λ (t : Typed). t at) ts
 abbrev pub if_typed : Option Typed → Typed
 if_typed t at = if_given (λ (u : Typed). u at) t
 
--- Uses of rulesets and `check` aren't typed yet, and in a clause they have no place and are refused. Nor are analytic
+-- Uses of rulesets aren't typed yet, and in a clause they have no place and are refused. Nor are analytic
 -- operators as a whole item of `calc`. `count()` has no place outside of clauses, and is refused there. Calls of defined
 -- operators are written out before.
 abbrev pub expr_step : Expr-F Typed Typed Typed Typed Typed Typed → Typed
@@ -91,7 +91,7 @@ expr_step (Expr-F.Rank o p) at = if_analytic at true
 expr_step (Expr-F.CheckDatapoint a r q o p) at = is_in_clause at
 expr_step (Expr-F.Hierarchy a r q c m i o p) at = is_in_clause at
 expr_step (Expr-F.CheckHierarchy a r q c m i o p) at = is_in_clause at
-expr_step (Expr-F.Check a c l i o p) at = is_in_clause at
+expr_step (Expr-F.Check a c l i o p) at = if_outside at (a Outside && if_typed i Outside)
 expr_step (Expr-F.Time f a p) at = if_outside at (a Outside)
 expr_step (Expr-F.Timeshift a n p) at = if_outside at (a Outside)
 expr_step (Expr-F.FillTimeSeries a s p) at = if_outside at (a Outside)

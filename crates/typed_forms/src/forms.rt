@@ -115,7 +115,11 @@ fn expr(tree: &Expr, at: Stand) -> bool
         Expr::CheckDatapoint { .. } => at.is_in_clause(),
         Expr::Hierarchy { .. } => at.is_in_clause(),
         Expr::CheckHierarchy { .. } => at.is_in_clause(),
-        Expr::Check { .. } => at.is_in_clause(),
+        Expr::Check {
+            operand,
+            imbalance,
+            ..
+        } => check(operand.get(), imbalance, at),
         Expr::Time { operand, .. } => on_set(operand.get(), at),
         Expr::Timeshift { operand, .. } => on_set(operand.get(), at),
         Expr::FillTimeSeries { operand, .. } => on_set(operand.get(), at),
@@ -214,6 +218,17 @@ fn with_optional(tree: &Expr, other: &Option<Boxed<Expr>>, at: Stand) -> bool
     ensures { result ≡ (meant.expr_typed tree.now at && meant.if_given (λ t. meant.expr_typed t at) other.now) }
 {
     expr(tree, at) && optional(other, at)
+}
+
+/// `check`, on a data set and its imbalance.
+#[cycle(walk)]
+fn check(operand: &Expr, imbalance: &Option<Boxed<Expr>>, at: Stand) -> bool
+    ensures { result ≡ meant.if_outside at (meant.expr_typed operand.now Stand.Outside && meant.if_given (λ t. meant.expr_typed t Stand.Outside) imbalance.now) }
+{
+    match at {
+        Stand::Outside => with_optional(operand, imbalance, Stand::Outside),
+        Stand::Item | Stand::Inside => true,
+    }
 }
 
 #[cycle(walk)]

@@ -4,15 +4,15 @@ use Rattle.vtl_values.specs.declared.kind.Kind.{Kind}
 use Rattle.vtl_values.specs.declared.place.Place.{Place}
 use Rattle.vtl_values.specs.declared.structure.Component.{Component}
 use Rattle.vtl_syntax.specs.declared.expr.Over.{Over}
-use Rattle.typing_rules.specs.declared.stop.TypeStop.{TypeStop}
-use Rattle.typing_rules.specs.Steps.{Refuses}
-use Rattle.clause_trees.specs.declared.frame.Frame.{Frame}
-use Rattle.clause_trees.specs.Frames.{frame_of}
+use Rattle.scalar_trees.specs.declared.typing.stop.TypeStop.{TypeStop}
+use Rattle.scalar_trees.specs.typing.Steps.{Refuses}
+use Rattle.data_set_trees.specs.declared.clauses.frame.Frame.{Frame}
+use Rattle.data_set_trees.specs.clauses.Frames.{frame_of}
 use Rattle.operator_typing.proofs.Steps.{goes_on, stops_same, fails_there}
-use Rattle.window_trees.specs.declared.analytic.AnalyticMeasure.{AnalyticMeasure}
-use Rattle.window_trees.specs.declared.analytic.CheckedWindow.{CheckedWindow}
-use Rattle.window_trees.specs.declared.analytic.CheckedWindow.TheVariants as window
-use Rattle.window_trees.specs.Windows.{measures_typed}
+use Rattle.data_set_trees.specs.declared.windows.analytic.AnalyticMeasure.{AnalyticMeasure}
+use Rattle.data_set_trees.specs.declared.windows.analytic.CheckedWindow.{CheckedWindow}
+use Rattle.data_set_trees.specs.declared.windows.analytic.CheckedWindow.TheVariants as window
+use Rattle.data_set_trees.specs.windows.Windows.{measures_typed}
 use Rattle.window_typing.specs.Each.{fits}
 
 -- a call on a data set, and what it looks at: its frame, the measures that it works out, and what it asks

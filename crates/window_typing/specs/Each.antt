@@ -4,19 +4,19 @@ use Rattle.vtl_values.specs.declared.kind.Kind.{Kind}
 use Rattle.vtl_values.specs.declared.kind.Role.TheVariants.{Measure}
 use Rattle.vtl_values.specs.declared.place.Place.{Place}
 use Rattle.vtl_syntax.specs.declared.expr.Over.{Over}
-use Rattle.typing_rules.specs.declared.stop.Fault.TheVariants.{UnknownComponent, WrongType, WrongStructure, WrongRole, NameTwice, TooManyComponents, BadConstant}
-use Rattle.typing_rules.specs.declared.stop.Refusal.{Refusal}
-use Rattle.clause_trees.specs.declared.frame.Frame.{Frame}
-use Rattle.clause_trees.specs.Clauses.{demands}
-use Rattle.clause_trees.specs.Frames.{numbers_of}
-use Rattle.aggregate_trees.specs.Aggregates.{has_room, names_differ}
-use Rattle.window_trees.specs.declared.analytic.Analytic.{Analytic}
-use Rattle.window_trees.specs.declared.analytic.Analytic.TheVariants as analytic
-use Rattle.window_trees.specs.declared.analytic.AnalyticMeasure.{AnalyticMeasure}
-use Rattle.window_trees.specs.Functions.{window_gives}
-use Rattle.window_trees.specs.Parts.{knows, may_part}
-use Rattle.window_trees.specs.Results.{unordered}
-use Rattle.window_trees.specs.Windows.{takes_all, window_of, with_parts}
+use Rattle.scalar_trees.specs.declared.typing.stop.Fault.TheVariants.{UnknownComponent, WrongType, WrongStructure, WrongRole, NameTwice, TooManyComponents, BadConstant}
+use Rattle.scalar_trees.specs.declared.typing.stop.Refusal.{Refusal}
+use Rattle.data_set_trees.specs.declared.clauses.frame.Frame.{Frame}
+use Rattle.data_set_trees.specs.clauses.Clauses.{demands}
+use Rattle.data_set_trees.specs.clauses.Frames.{numbers_of}
+use Rattle.data_set_trees.specs.aggregates.Aggregates.{has_room, names_differ}
+use Rattle.data_set_trees.specs.declared.windows.analytic.Analytic.{Analytic}
+use Rattle.data_set_trees.specs.declared.windows.analytic.Analytic.TheVariants as analytic
+use Rattle.data_set_trees.specs.declared.windows.analytic.AnalyticMeasure.{AnalyticMeasure}
+use Rattle.data_set_trees.specs.windows.Functions.{window_gives}
+use Rattle.data_set_trees.specs.windows.Parts.{knows, may_part}
+use Rattle.data_set_trees.specs.windows.Results.{unordered}
+use Rattle.data_set_trees.specs.windows.Windows.{takes_all, window_of, with_parts}
 use Rattle.window_typing.specs.declared.measures.OnEach.{OnEach}
 use Rattle.window_typing.specs.declared.measures.OnEach.TheVariants.{Window, Offset}
 

@@ -4,17 +4,17 @@ use Rattle.vtl_values.specs.declared.kind.Kind.{Kind}
 use Rattle.vtl_values.specs.declared.place.Place.{Place}
 use Rattle.vtl_syntax.specs.declared.expr.Expr.{Expr}
 use Rattle.vtl_syntax.specs.declared.expr.Over.{Over}
-use Rattle.typing_rules.specs.declared.scope.Basis.TheVariants.{Point}
-use Rattle.typing_rules.specs.declared.stop.Fault.TheVariants.{UnknownComponent, WrongStructure}
-use Rattle.typing_rules.specs.declared.stop.Refusal.{Refusal}
-use Rattle.typing_rules.specs.declared.typed.Typed.{Typed}
-use Rattle.typing_rules.specs.Scalars.{joint, typed}
-use Rattle.typing_rules.specs.Steps.{◌>>=◌, or_refused}
-use Rattle.clause_trees.specs.declared.frame.Frame.{Frame}
-use Rattle.clause_trees.specs.Clauses.{demands}
-use Rattle.clause_trees.specs.Frames.{scope_of_frame}
-use Rattle.window_trees.specs.Parts.{knows}
-use Rattle.window_trees.specs.Windows.{bare_component}
+use Rattle.scalar_trees.specs.declared.typing.scope.Basis.TheVariants.{Point}
+use Rattle.scalar_trees.specs.declared.typing.stop.Fault.TheVariants.{UnknownComponent, WrongStructure}
+use Rattle.scalar_trees.specs.declared.typing.stop.Refusal.{Refusal}
+use Rattle.scalar_trees.specs.declared.typing.typed.Typed.{Typed}
+use Rattle.scalar_trees.specs.typing.Scalars.{joint, typed}
+use Rattle.scalar_trees.specs.typing.Steps.{◌>>=◌, or_refused}
+use Rattle.data_set_trees.specs.declared.clauses.frame.Frame.{Frame}
+use Rattle.data_set_trees.specs.clauses.Clauses.{demands}
+use Rattle.data_set_trees.specs.clauses.Frames.{scope_of_frame}
+use Rattle.data_set_trees.specs.windows.Parts.{knows}
+use Rattle.data_set_trees.specs.windows.Windows.{bare_component}
 use Rattle.window_typing.specs.declared.operands.Operand.{Operand}
 use Rattle.window_typing.specs.declared.operands.Taken.{Taken}
 

@@ -1,19 +1,19 @@
 // Frames after analytic operators.
 ghost use Rattle.std.specs.Prelude.{◌≡◌, ◌++◌, map, IfOk};
 ghost use Rattle.vtl_values.specs.declared.kind.Role.TheVariants.{Identifier, Viral};
-ghost use Rattle.aggregate_trees.specs.Results.{with_numbers};
-ghost use Rattle.clause_trees.specs.After as clauses;
-ghost use Rattle.clause_trees.specs.Frames as frames;
-ghost use Rattle.window_trees.specs.Results as meant;
+ghost use Rattle.data_set_trees.specs.aggregates.Results.{with_numbers};
+ghost use Rattle.data_set_trees.specs.clauses.After as clauses;
+ghost use Rattle.data_set_trees.specs.clauses.Frames as frames;
+ghost use Rattle.data_set_trees.specs.windows.Results as meant;
 
 use crate::calc::as_items;
-use clause_trees::{CheckedClause, Frame};
 use clause_typing::{by_role, frame_of, made};
+use data_set_trees::clauses::{CheckedClause, Frame};
+use data_set_trees::windows::{AnalyticItem, AnalyticMeasure, CheckedWindow};
 use result_components::{numbers_of, with_numbers};
 use sqlite_items::Items;
 use std::alloc::{AllocError, Global};
 use vtl_values::{Component, Role};
-use window_trees::{AnalyticItem, AnalyticMeasure, CheckedWindow};
 
 /// The identifiers, and then the viral attributes.
 fn staying(alloc: Global, components: &[Component]) -> Result<Items<Component>, AllocError>

@@ -1,19 +1,19 @@
 // `calc` with analytic items.
 ghost use Rattle.std.specs.Prelude.{◌≡◌, map, All, Ok, IfOk, IfErr};
 ghost use Rattle.vtl_values.specs.Structures.{IsStructure};
-ghost use Rattle.typing_rules.specs.Steps.{Refuses};
-ghost use Rattle.clause_trees.specs.Frames.{frame_of};
-ghost use Rattle.window_trees.specs.Results as results;
-ghost use Rattle.window_trees.specs.Windows as meant;
+ghost use Rattle.scalar_trees.specs.typing.Steps.{Refuses};
+ghost use Rattle.data_set_trees.specs.clauses.Frames.{frame_of};
+ghost use Rattle.data_set_trees.specs.windows.Results as results;
+ghost use Rattle.data_set_trees.specs.windows.Windows as meant;
 
-use clause_trees::{CheckedItem, Frame, Target};
 use clause_typing::calc_typed;
+use data_set_trees::clauses::{CheckedItem, Frame, Target};
+use data_set_trees::windows::{AnalyticItem, CheckedWindow};
 use scalar_trees::CheckedExpr;
+use scalar_trees::typing::TypeStop;
 use sqlite_items::Items;
 use std::alloc::{AllocError, Global};
-use typing_rules::TypeStop;
 use vtl_values::{Place, Value};
-use window_trees::{AnalyticItem, CheckedWindow};
 
 fn copy_target(target: &Target) -> Result<Target, AllocError>
     ensures { IfOk result (λ copy. copy ≡ target.now) }

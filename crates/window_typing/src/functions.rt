@@ -1,14 +1,14 @@
 // What analytic functions take and give.
 ghost use Rattle.std.specs.Prelude.{◌≡◌};
-ghost use Rattle.window_trees.specs.Functions as meant;
-ghost use Rattle.window_trees.specs.Windows as windows;
+ghost use Rattle.data_set_trees.specs.windows.Functions as meant;
+ghost use Rattle.data_set_trees.specs.windows.Windows as windows;
 
 use crate::points::{end_of, start_of};
+use data_set_trees::windows::Analytic;
 use scalar_trees::any_kind;
 use vtl_syntax::Over;
 use vtl_syntax::words::{WindowEnd, WindowFunction, WindowStart};
 use vtl_values::Kind;
-use window_trees::Analytic;
 
 /// The kinds of components that a function takes.
 pub(crate) fn window_takes(function: WindowFunction) -> &'static [Kind]

@@ -1,14 +1,14 @@
 // The items of `calc`.
 ghost use Rattle.std.specs.Prelude.{◌≡◌, IfOk};
-ghost use Rattle.window_trees.specs.Windows as meant;
+ghost use Rattle.data_set_trees.specs.windows.Windows as meant;
 
-use clause_trees::Frame;
 use clause_typing::{bare_number_of, old_role, role_of, target_of};
+use data_set_trees::clauses::Frame;
+use data_set_trees::windows::{AnalyticItem, AnalyticValue, CheckedAnalytic};
+use scalar_trees::typing::Typed;
 use std::alloc::AllocError;
-use typing_rules::Typed;
 use vtl_syntax::words::ItemRole;
 use vtl_values::{Kind, Word};
-use window_trees::{AnalyticItem, AnalyticValue, CheckedAnalytic};
 
 fn item_typed(
     frame: &Frame,

@@ -1,9 +1,9 @@
 //! What analytic operators are checked to be, or their first fault; and what a frame is after them.
 //!
-//! It stands on `window_trees` for the trees and the definitions, on `component_typing` for the operand of an operator in
-//! `calc`, and on `clause_typing` and `result_components` for frames and for what is asked of a result. An operator on a data
-//! set is typed on its components, and one in `calc` on a frame, each by one call that answers exactly what the definition
-//! says, or want of memory. What they give on a structure is a structure again.
+//! It stands on `data_set_trees::windows` for the trees and the definitions, on `component_typing` for the operand of
+//! an operator in `calc`, and on `clause_typing` and `result_components` for frames and for what is asked of a result.
+//! An operator on a data set is typed on its components, and one in `calc` on a frame, each by one call that answers
+//! exactly what the definition says, or want of memory. What they give on a structure is a structure again.
 #![tactic(auto)]
 
 mod after;

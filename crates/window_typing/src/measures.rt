@@ -3,27 +3,27 @@ ghost use Rattle.std.specs.Prelude.{◌≡◌, ◌||◌, not, is_some, map, Some
 ghost use Rattle.vtl_values.specs.declared.kind.Role.TheVariants.{Measure};
 ghost use Rattle.vtl_values.specs.Structures.{IsStructure};
 ghost use Rattle.scalar_trees.specs.Kinds as kinds;
-ghost use Rattle.typing_rules.specs.Steps.{Refuses};
-ghost use Rattle.clause_trees.specs.Frames as frames;
-ghost use Rattle.window_trees.specs.Results as results;
-ghost use Rattle.window_trees.specs.Windows as meant;
+ghost use Rattle.scalar_trees.specs.typing.Steps.{Refuses};
+ghost use Rattle.data_set_trees.specs.clauses.Frames as frames;
+ghost use Rattle.data_set_trees.specs.windows.Results as results;
+ghost use Rattle.data_set_trees.specs.windows.Windows as meant;
 ghost use Rattle.window_typing.specs.Each as each;
 
 use crate::after::unordered;
 use crate::functions::{takes_window, window_gives, window_of, window_takes};
 use crate::parts::{knows, may_part, with_parts};
 use crate::points::{end_of, is_offset, may_state, points_within, start_of};
-use clause_trees::Frame;
 use clause_typing::{demands, frame_of, has_role};
+use data_set_trees::clauses::Frame;
+use data_set_trees::windows::{Analytic, AnalyticMeasure, CheckedWindow};
 use result_components::{has_room, int_var, names_differ, numbers_of};
+use scalar_trees::typing::{Fault, TypeStop};
 use scalar_trees::{agreed, any_kind};
 use sqlite_items::Items;
 use std::alloc::{AllocError, Global};
-use typing_rules::{Fault, TypeStop};
 use vtl_syntax::Over;
 use vtl_syntax::words::{OffsetFunction, WindowFunction};
 use vtl_values::{Component, Integer, Kind, Place, Role};
-use window_trees::{Analytic, AnalyticMeasure, CheckedWindow};
 
 /// An operator that works on each measure.
 #[derive(Clone, Copy)]

@@ -1,24 +1,24 @@
 // Analytic operators in `calc`, each on a component.
 ghost use Rattle.std.specs.Prelude.{◌≡◌, is_some, Ok, IfOk, IfErr};
-ghost use Rattle.typing_rules.specs.Scalars as scalars;
-ghost use Rattle.typing_rules.specs.Steps.{Refuses};
-ghost use Rattle.window_trees.specs.Windows as meant;
+ghost use Rattle.scalar_trees.specs.typing.Scalars as scalars;
+ghost use Rattle.scalar_trees.specs.typing.Steps.{Refuses};
+ghost use Rattle.data_set_trees.specs.windows.Windows as meant;
 ghost use Rattle.window_typing.specs.Operands as operands;
 
 use crate::functions::{takes_window, window_gives, window_of, window_takes};
 use crate::parts::{knows, may_part, with_parts};
 use crate::points::{is_offset, may_state, points_within};
-use clause_trees::Frame;
 use clause_typing::{demands, scope_of_frame};
 use component_typing::check_operand;
+use data_set_trees::clauses::Frame;
+use data_set_trees::windows::{Analytic, CheckedAnalytic};
 use operator_typing::joint;
+use scalar_trees::typing::{Basis, Fault, TypeStop, Typed};
 use scalar_trees::{CheckedExpr, any_kind};
 use std::alloc::Global;
-use typing_rules::{Basis, Fault, TypeStop, Typed};
 use vtl_syntax::words::{OffsetFunction, WindowFunction};
 use vtl_syntax::{Expr, Over};
 use vtl_values::{Integer, Kind, Place};
-use window_trees::{Analytic, CheckedAnalytic};
 
 fn is_bare_name(operand: &Expr) -> bool
     ensures { result ≡ is_some (scalars.meaning operand.now).own_name }

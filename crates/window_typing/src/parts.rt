@@ -1,21 +1,21 @@
 // The parts that operators work in, and their order.
 ghost use Rattle.std.specs.Prelude.{◌≡◌, filter_map, is_some, IfOk};
 ghost use Rattle.std.specs.List.{list_all};
-ghost use Rattle.clause_trees.specs.After.{is_among};
-ghost use Rattle.clause_trees.specs.Clauses as clauses;
-ghost use Rattle.clause_trees.specs.Frames as frames;
-ghost use Rattle.window_trees.specs.Parts as meant;
-ghost use Rattle.window_trees.specs.Windows as windows;
+ghost use Rattle.data_set_trees.specs.clauses.After.{is_among};
+ghost use Rattle.data_set_trees.specs.clauses.Clauses as clauses;
+ghost use Rattle.data_set_trees.specs.clauses.Frames as frames;
+ghost use Rattle.data_set_trees.specs.windows.Parts as meant;
+ghost use Rattle.data_set_trees.specs.windows.Windows as windows;
 
-use clause_trees::Frame;
 use clause_typing::{bare_number_of, is_among};
+use data_set_trees::clauses::Frame;
+use data_set_trees::windows::{Analytic, CheckedAnalytic, OrderedBy, Parts};
 use result_components::{are_known, is_identifier};
 use sqlite_items::Items;
 use std::alloc::{AllocError, Global};
 use vtl_syntax::words::Direction;
 use vtl_syntax::{OrderItem, Over};
 use vtl_values::{Component, Word};
-use window_trees::{Analytic, CheckedAnalytic, OrderedBy, Parts};
 
 fn partition_names(over: &Over) -> &[Word]
     ensures { result.now ≡ meant.partition_names over.now }

@@ -1,7 +1,7 @@
 // Windows and offsets.
 ghost use Rattle.std.specs.Prelude.{◌≡◌};
-ghost use Rattle.window_trees.specs.Parts as meant;
-ghost use Rattle.window_trees.specs.Windows as windows;
+ghost use Rattle.data_set_trees.specs.windows.Parts as meant;
+ghost use Rattle.data_set_trees.specs.windows.Windows as windows;
 
 use vtl_syntax::words::{WindowEnd, WindowStart};
 use vtl_syntax::{Over, Points};

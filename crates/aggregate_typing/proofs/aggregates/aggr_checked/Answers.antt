@@ -1,6 +1,6 @@
 use Rattle.std.proofs.Common.{◌≡◌, ℕ, List, true, refl, ap, ◌∙◌}
-use Rattle.aggregate_trees.specs.Aggregates.{scope_on}
-use Rattle.aggregate_trees.specs.Groups.{scope_of_groups}
+use Rattle.data_set_trees.specs.aggregates.Aggregates.{scope_on}
+use Rattle.data_set_trees.specs.aggregates.Groups.{scope_of_groups}
 use Rattle.aggregate_typing.proofs.OnGroups.{items_answer, parts_answer}
 use Rattle.aggregate_typing.proofs.aggregates.aggr_checked.Goals as goal
 

@@ -1,8 +1,8 @@
 use Rattle.std.proofs.Common.{◌≡◌, Ok}
 use Rattle.std.proofs.lemmas.Result.{IfOk-weaker}
 use Rattle.vtl_values.specs.Structures.{IsStructure}
-use Rattle.aggregate_trees.specs.Aggregates.{aggr_checked}
-use Rattle.aggregate_trees.specs.Results.{grouped}
+use Rattle.data_set_trees.specs.aggregates.Aggregates.{aggr_checked}
+use Rattle.data_set_trees.specs.aggregates.Results.{grouped}
 use Rattle.aggregate_typing.proofs.Structures.{aggr_gives}
 use Rattle.aggregate_typing.proofs.aggregates.aggr_typed.Goals as goal
 

@@ -1,6 +1,6 @@
 use Rattle.std.proofs.Common.{◌≡◌, ℕ, List, ap, ◌∙◌}
-use Rattle.aggregate_trees.specs.Aggregates.{items_of, scope_on, takes_all}
-use Rattle.aggregate_trees.specs.Groups.{scope_of_groups}
+use Rattle.data_set_trees.specs.aggregates.Aggregates.{items_of, scope_on, takes_all}
+use Rattle.data_set_trees.specs.aggregates.Groups.{scope_of_groups}
 use Rattle.aggregate_typing.proofs.OnGroups.{parts_answer}
 use Rattle.aggregate_typing.proofs.aggregates.aggregate_checked.Goals as goal
 

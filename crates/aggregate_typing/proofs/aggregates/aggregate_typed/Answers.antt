@@ -1,8 +1,8 @@
 use Rattle.std.proofs.Common.{◌≡◌, Ok}
 use Rattle.std.proofs.lemmas.Result.{IfOk-weaker}
 use Rattle.vtl_values.specs.Structures.{IsStructure}
-use Rattle.aggregate_trees.specs.Aggregates.{aggregate_checked}
-use Rattle.aggregate_trees.specs.Results.{grouped}
+use Rattle.data_set_trees.specs.aggregates.Aggregates.{aggregate_checked}
+use Rattle.data_set_trees.specs.aggregates.Results.{grouped}
 use Rattle.aggregate_typing.proofs.Structures.{aggregate_gives}
 use Rattle.aggregate_typing.proofs.aggregates.aggregate_typed.Goals as goal
 

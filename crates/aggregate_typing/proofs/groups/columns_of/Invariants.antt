@@ -1,5 +1,5 @@
 use Rattle.std.proofs.Common.{◌≡◌, ◌++◌, drop}
-use Rattle.aggregate_trees.specs.Groups.{columns_from}
+use Rattle.data_set_trees.specs.aggregates.Groups.{columns_from}
 use Rattle.aggregate_typing.proofs.groups.columns_of.Given as goal
 
 abbrev pub invariant-loop-i : goal.invariant-loop-i

@@ -1,6 +1,6 @@
 use Rattle.std.proofs.Common.{◌≡◌, ◌++◌, drop}
-use Rattle.clause_trees.specs.Frames.{numbers_from}
-use Rattle.aggregate_trees.specs.Groups.{forms_groups}
+use Rattle.data_set_trees.specs.clauses.Frames.{numbers_from}
+use Rattle.data_set_trees.specs.aggregates.Groups.{forms_groups}
 use Rattle.aggregate_typing.proofs.groups.numbers_forming.Given as goal
 
 abbrev pub invariant-loop-i : goal.invariant-loop-i

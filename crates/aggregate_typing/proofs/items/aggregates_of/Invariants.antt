@@ -1,7 +1,7 @@
 use Rattle.std.proofs.Common.{◌≡◌, ◌++◌, drop}
 use Rattle.std.specs.Prelude.{filter_map, slice_get}
 use Rattle.std.specs.Option.{option_map}
-use Rattle.aggregate_trees.specs.Aggregates.{aggregate_of}
+use Rattle.data_set_trees.specs.aggregates.Aggregates.{aggregate_of}
 use Rattle.aggregate_typing.proofs.items.aggregates_of.Given as goal
 
 abbrev pub invariant-loop-number : goal.invariant-loop-number

@@ -1,6 +1,6 @@
 use Rattle.std.proofs.Common.{◌≡◌, ◌++◌, drop, Ok}
-use Rattle.typing_rules.specs.Steps.{◌>>=◌}
-use Rattle.aggregate_trees.specs.Aggregates.{items_checked}
+use Rattle.scalar_trees.specs.typing.Steps.{◌>>=◌}
+use Rattle.data_set_trees.specs.aggregates.Aggregates.{items_checked}
 use Rattle.aggregate_typing.proofs.items.items_checked.Given as goal
 
 abbrev pub invariant-loop-item : goal.invariant-loop-item

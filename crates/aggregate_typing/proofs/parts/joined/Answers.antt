@@ -1,10 +1,10 @@
 use Rattle.std.proofs.Common.{◌≡◌, Bool, List, [], ◌∷◌, Ok, ap, ◌∙◌}
-use Rattle.typing_rules.specs.declared.stop.Fault.{Fault}
-use Rattle.typing_rules.specs.declared.stop.Fault.TheVariants.{WrongRole, NameTwice, TooManyComponents}
+use Rattle.scalar_trees.specs.declared.typing.stop.Fault.{Fault}
+use Rattle.scalar_trees.specs.declared.typing.stop.Fault.TheVariants.{WrongRole, NameTwice, TooManyComponents}
 use Rattle.operator_typing.proofs.Steps.{stops_same}
-use Rattle.clause_trees.specs.Clauses.{demands}
-use Rattle.aggregate_trees.specs.Aggregates.{has_room, names_differ}
-use Rattle.aggregate_trees.specs.Results.{unordered}
+use Rattle.data_set_trees.specs.clauses.Clauses.{demands}
+use Rattle.data_set_trees.specs.aggregates.Aggregates.{has_room, names_differ}
+use Rattle.data_set_trees.specs.aggregates.Results.{unordered}
 use Rattle.aggregate_typing.proofs.Steps.{ends_there}
 use Rattle.aggregate_typing.proofs.parts.joined.Goals as goal
 

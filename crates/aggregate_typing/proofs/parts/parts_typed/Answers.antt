@@ -1,9 +1,9 @@
 use Rattle.std.proofs.Common.{◌≡◌, ap, ◌∙◌}
 use Rattle.std.specs.Prelude.{is_some}
 use Rattle.std.specs.List.{list_all}
-use Rattle.clause_trees.specs.declared.frame.Frame.{Frame}
-use Rattle.clause_trees.specs.Clauses.{bare_number_of}
-use Rattle.aggregate_trees.specs.Aggregates as meant
+use Rattle.data_set_trees.specs.declared.clauses.frame.Frame.{Frame}
+use Rattle.data_set_trees.specs.clauses.Clauses.{bare_number_of}
+use Rattle.data_set_trees.specs.aggregates.Aggregates as meant
 use Rattle.aggregate_typing.specs.Parts as own
 use Rattle.aggregate_typing.proofs.OfParts.{unfit, no_boolean, fit_so_far}
 use Rattle.aggregate_typing.proofs.parts.parts_typed.Goals as goal

@@ -1,5 +1,5 @@
 use Rattle.std.proofs.Common.{◌≡◌, map, take}
-use Rattle.aggregate_trees.specs.Results.{made_by}
+use Rattle.data_set_trees.specs.aggregates.Results.{made_by}
 use Rattle.aggregate_typing.proofs.results.all_made.Given as goal
 
 abbrev pub invariant-loop-item : goal.invariant-loop-item

@@ -3,7 +3,7 @@ use Rattle.std.specs.List.{All, list_all}
 use Rattle.vtl_values.specs.Structures.{IsStructure}
 use Rattle.vtl_values.specs.declared.structure.Component.{Component}
 use Rattle.data_set_trees.specs.declared.tree.DataSetTree.{DataSetTree}
-use Rattle.checked_trees.specs.Expressions.{expression_of, expressions}
+use Rattle.data_set_trees.specs.checked.Expressions.{expression_of, expressions}
 use Rattle.built_scripts.specs.Built.{each_all_built, is_built, is_tree_built, IsTreeStructured}
 use Rattle.built_scripts.proofs.Built.{each-built, each-structured}
 use Rattle.built_scripts.proofs.Lists.{all-more, true-more}

@@ -1,6 +1,6 @@
 use Rattle.std.proofs.Common.{List, sym, ◌∙◌, ap, subst, refl}
 use Rattle.std.specs.List.{All, list_all}
-use Rattle.checked_trees.specs.declared.script.CheckedStatement.{CheckedStatement}
+use Rattle.data_set_trees.specs.declared.checked.script.CheckedStatement.{CheckedStatement}
 use Rattle.built_scripts.specs.Built.{is_statement_built, IsStatementStructured}
 use Rattle.built_scripts.proofs.Built.{checked}
 use Rattle.built_scripts.proofs.scripts.runnable.Goals as goal

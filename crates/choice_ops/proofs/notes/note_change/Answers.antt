@@ -7,7 +7,7 @@ use Rattle.data_model.specs.Deltas.{after}
 use Rattle.data_model.specs.Drafts.{note_key}
 use Rattle.point_sets.specs.Changes.{values_eq}
 use Rattle.held_index.specs.Holdings.{contents}
-use Rattle.choice_meaning.specs.Choices.{ChoiceOn}
+use Rattle.operator_meaning.specs.choices.Choices.{ChoiceOn}
 use Rattle.choice_ops.specs.Plans.{choice_in}
 use Rattle.choice_ops.specs.Noted.{change_at, noted_at}
 use Rattle.choice_ops.proofs.notes.note_change.Goals as goal

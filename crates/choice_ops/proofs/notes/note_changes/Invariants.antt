@@ -4,7 +4,7 @@ use Rattle.vtl_values.specs.declared.value.Value.{Value}
 use Rattle.point_sets.specs.DataSets.{DataSet}
 use Rattle.point_sets.specs.Changes.{change_entry}
 use Rattle.held_index.specs.Holdings.{AllPlain, contents}
-use Rattle.choice_meaning.specs.Choices.{condition_key}
+use Rattle.operator_meaning.specs.choices.Choices.{condition_key}
 use Rattle.choice_ops.specs.Plans.{choice_in}
 use Rattle.choice_ops.specs.Noted.{Sees, IsNoted}
 use Rattle.choice_ops.proofs.notes.note_changes.Given as goal

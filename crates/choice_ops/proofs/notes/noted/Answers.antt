@@ -8,7 +8,7 @@ use Rattle.vtl_values.specs.declared.value.Value.{Value}
 use Rattle.point_sets.specs.Changes.{Changes}
 use Rattle.held_index.specs.Drafts.{SetDraft}
 use Rattle.held_index.specs.Holdings.{contents}
-use Rattle.choice_meaning.specs.Choices.{ChoiceOn, condition_key}
+use Rattle.operator_meaning.specs.choices.Choices.{ChoiceOn, condition_key}
 use Rattle.choice_ops.specs.Plans.{choice_in}
 use Rattle.choice_ops.specs.Noted.{keys_from, IsNoted}
 use Rattle.choice_ops.proofs.Marked.{noted-nothing, keys-more, changes-more, changes-within}

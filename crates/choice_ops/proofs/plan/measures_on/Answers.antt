@@ -2,7 +2,7 @@ use Rattle.std.proofs.Common.{map, subst}
 use Rattle.scalar_meaning.specs.Rows.{Row, point_row}
 use Rattle.scalar_eval.specs.Stops.{IsMeant}
 use Rattle.clause_meaning.specs.Clauses.{values_on}
-use Rattle.choice_meaning.specs.Choices.{value_in}
+use Rattle.operator_meaning.specs.choices.Choices.{value_in}
 use Rattle.choice_ops.proofs.plan.measures_on.Goals as goal
 
 pub returns : goal.returns

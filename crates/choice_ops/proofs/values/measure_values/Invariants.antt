@@ -1,6 +1,6 @@
 use Rattle.std.proofs.Common.{◌≡◌, map, drop}
 use Rattle.clause_meaning.specs.Clauses.{values_on}
-use Rattle.choice_meaning.specs.Choices.{value_in}
+use Rattle.operator_meaning.specs.choices.Choices.{value_in}
 use Rattle.choice_ops.proofs.Steps.{with_left}
 use Rattle.choice_ops.proofs.values.measure_values.Given as goal
 

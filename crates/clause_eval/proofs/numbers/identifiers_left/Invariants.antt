@@ -1,7 +1,7 @@
 use Rattle.std.proofs.Common.{◌≡◌, ◌++◌, ◌&&◌, drop}
 use Rattle.structured_sets.specs.Fitting.{is_identifier}
-use Rattle.clause_trees.specs.Frames.{numbers_from}
-use Rattle.clause_trees.specs.After.{is_left}
+use Rattle.data_set_trees.specs.clauses.Frames.{numbers_from}
+use Rattle.data_set_trees.specs.clauses.After.{is_left}
 use Rattle.clause_eval.proofs.numbers.identifiers_left.Given as goal
 
 abbrev pub invariant-loop-i : goal.invariant-loop-i

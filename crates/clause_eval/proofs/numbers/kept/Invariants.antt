@@ -1,7 +1,7 @@
 use Rattle.std.proofs.Common.{◌≡◌, ◌++◌, ◌&&◌, not, drop}
 use Rattle.structured_sets.specs.Fitting.{is_identifier}
-use Rattle.clause_trees.specs.Frames.{numbers_from}
-use Rattle.clause_trees.specs.After.{is_kept}
+use Rattle.data_set_trees.specs.clauses.Frames.{numbers_from}
+use Rattle.data_set_trees.specs.clauses.After.{is_kept}
 use Rattle.clause_eval.proofs.numbers.kept.Given as goal
 
 abbrev pub invariant-loop-i : goal.invariant-loop-i

@@ -1,8 +1,8 @@
 use Rattle.std.proofs.Common.{List, ◌∙◌, ap, sym}
 use Rattle.std.proofs.lemmas.Result.{IfOk-weaker}
-use Rattle.clause_trees.specs.Frames.{frame_of}
-use Rattle.clause_trees.specs.declared.clause.CheckedClause.{CheckedClause}
-use Rattle.clause_trees.specs.declared.clause.CheckedItem.{CheckedItem}
+use Rattle.data_set_trees.specs.clauses.Frames.{frame_of}
+use Rattle.data_set_trees.specs.declared.clauses.clause.CheckedClause.{CheckedClause}
+use Rattle.data_set_trees.specs.declared.clauses.clause.CheckedItem.{CheckedItem}
 use Rattle.clause_eval.specs.Points.{picks_of}
 use Rattle.clause_eval.specs.Roles.{others_with, roles_after}
 use Rattle.clause_eval.proofs.RoleLemmas.{calc-picks, roles}

@@ -1,7 +1,7 @@
 use Rattle.std.proofs.Common.{◌≡◌, ◌++◌, ◌∷◌, Some, None, option_map, rules, sym, ap, ◌∙◌}
 use Rattle.vtl_values.specs.declared.value.Value.{Value}
 use Rattle.vtl_values.specs.declared.kind.Role.TheVariants.{Viral}
-use Rattle.clause_trees.specs.Frames.{numbers_of}
+use Rattle.data_set_trees.specs.clauses.Frames.{numbers_of}
 use Rattle.point_sets.specs.DataSets.{rest_of}
 use Rattle.clause_meaning.specs.Clauses.{values_at}
 use Rattle.clause_eval.proofs.Named.{measure-point}

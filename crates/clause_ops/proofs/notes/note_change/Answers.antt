@@ -1,8 +1,8 @@
 use Rattle.std.proofs.Common.{◌≡◌, sym, ap, subst, ◌∙◌}
 use Rattle.std.specs.Result.{OnOk}
-use Rattle.clause_trees.specs.declared.clause.CheckedClause.{CheckedClause}
-use Rattle.clause_trees.specs.declared.clause.CheckedClause.TheVariants as clauses
-use Rattle.clause_trees.specs.Frames.{frame_of}
+use Rattle.data_set_trees.specs.declared.clauses.clause.CheckedClause.{CheckedClause}
+use Rattle.data_set_trees.specs.declared.clauses.clause.CheckedClause.TheVariants as clauses
+use Rattle.data_set_trees.specs.clauses.Frames.{frame_of}
 use Rattle.clause_eval.specs.Points.{picks_of}
 use Rattle.clause_ops.specs.Noted.{noted_change}
 use Rattle.clause_ops.proofs.notes.note_change.Goals as goal

@@ -3,7 +3,7 @@ use Rattle.std.proofs.Common.{◌≡◌, ◌+◌, Some, true, false, drop, sym, 
 use Rattle.std.proofs.lemmas.Option.{slice_get-get_or}
 use Rattle.vtl_values.specs.declared.kind.Role.TheVariants.{Measure}
 use Rattle.point_sets.specs.Changes.{values_of}
-use Rattle.clause_trees.specs.Frames.{frame_of, has_role}
+use Rattle.data_set_trees.specs.clauses.Frames.{frame_of, has_role}
 use Rattle.clause_eval.specs.Measures.{IsMeasureAt}
 use Rattle.clause_ops.proofs.Measured.{left, left-passed, left-noted}
 use Rattle.clause_ops.proofs.notes.note_measures.Goals as goal

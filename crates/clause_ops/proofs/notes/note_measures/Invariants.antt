@@ -1,6 +1,6 @@
 use Rattle.std.proofs.Common.{◌≡◌, map, drop}
 use Rattle.point_sets.specs.Changes.{values_of}
-use Rattle.clause_trees.specs.Frames.{frame_of}
+use Rattle.data_set_trees.specs.clauses.Frames.{frame_of}
 use Rattle.clause_meaning.specs.Clauses.{key_with_name, measures}
 use Rattle.clause_ops.specs.Noted.{noted_at}
 use Rattle.clause_ops.proofs.Measured.{value_of_key}

@@ -1,6 +1,6 @@
 -- No change, one change more, and all.
 use Rattle.std.proofs.Common.{[], sym, subst}
-use Rattle.clause_trees.specs.Frames.{frame_of}
+use Rattle.data_set_trees.specs.clauses.Frames.{frame_of}
 use Rattle.clause_meaning.proofs.First.{identifiers-first}
 use Rattle.held_index.specs.Drafts.{SetDraft}
 use Rattle.clause_ops.specs.Noted.{IsNoted}

@@ -3,7 +3,7 @@ use Rattle.data_model.specs.Deltas.{apply, BeginsAt}
 use Rattle.point_sets.specs.DataSets.{DataSet}
 use Rattle.point_sets.specs.Changes.{change_entry}
 use Rattle.structured_sets.specs.Fitting.{IsSetOf}
-use Rattle.clause_trees.specs.Frames.{frame_of}
+use Rattle.data_set_trees.specs.clauses.Frames.{frame_of}
 use Rattle.clause_ops.specs.Noted.{IsNoted}
 use Rattle.clause_ops.proofs.notes.noted.Given as goal
 

@@ -1,6 +1,6 @@
 use Rattle.std.proofs.Common.{◌≡◌, take}
 use Rattle.std.specs.Prelude.{fold}
-use Rattle.clause_trees.specs.After.{with_measure}
+use Rattle.data_set_trees.specs.clauses.After.{with_measure}
 use Rattle.clause_typing.proofs.after.add_measures.Given as goal
 
 abbrev pub invariant-loop-item : goal.invariant-loop-item

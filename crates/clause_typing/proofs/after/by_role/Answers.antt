@@ -1,6 +1,6 @@
 use Rattle.std.proofs.Common.{◌≡◌, List, ℕ, ap, subst, ◌∙◌}
 use Rattle.std.specs.Prelude.{IfOk}
-use Rattle.clause_trees.specs.Frames.{picked, numbers_by_role}
+use Rattle.data_set_trees.specs.clauses.Frames.{picked, numbers_by_role}
 use Rattle.clause_typing.proofs.after.by_role.Goals as goal
 
 pub returns : goal.returns

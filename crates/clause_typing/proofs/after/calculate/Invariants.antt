@@ -1,6 +1,6 @@
 use Rattle.std.proofs.Common.{◌≡◌, take}
 use Rattle.std.specs.Prelude.{fold}
-use Rattle.clause_trees.specs.After.{with_item}
+use Rattle.data_set_trees.specs.clauses.After.{with_item}
 use Rattle.clause_typing.proofs.after.calculate.Given as goal
 
 abbrev pub invariant-loop-item : goal.invariant-loop-item

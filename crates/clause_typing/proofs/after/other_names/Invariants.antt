@@ -1,6 +1,6 @@
 use Rattle.std.proofs.Common.{◌≡◌, ◌++◌, not, drop}
 use Rattle.std.specs.Prelude.{filter}
-use Rattle.clause_trees.specs.After.{is_name_of}
+use Rattle.data_set_trees.specs.clauses.After.{is_name_of}
 use Rattle.clause_typing.proofs.after.other_names.Given as goal
 
 abbrev pub invariant-loop-name : goal.invariant-loop-name

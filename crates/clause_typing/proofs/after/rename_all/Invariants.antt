@@ -1,6 +1,6 @@
 use Rattle.std.proofs.Common.{◌≡◌, take}
 use Rattle.std.specs.Prelude.{fold}
-use Rattle.clause_trees.specs.After.{with_rename}
+use Rattle.data_set_trees.specs.clauses.After.{with_rename}
 use Rattle.clause_typing.proofs.after.rename_all.Given as goal
 
 abbrev pub invariant-loop-renaming : goal.invariant-loop-renaming

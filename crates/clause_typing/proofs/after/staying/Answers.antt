@@ -2,7 +2,7 @@ use Rattle.std.proofs.Common.{◌≡◌, ◌++◌, List, ℕ, ap, subst, ◌∙�
 use Rattle.std.specs.Prelude.{IfOk}
 use Rattle.vtl_values.specs.declared.kind.Role.TheVariants.{Identifier, Viral}
 use Rattle.vtl_values.specs.declared.structure.Component.{Component}
-use Rattle.clause_trees.specs.Frames.{picked, numbers_of}
+use Rattle.data_set_trees.specs.clauses.Frames.{picked, numbers_of}
 use Rattle.clause_typing.proofs.after.staying.Goals as goal
 
 pub returns : goal.returns

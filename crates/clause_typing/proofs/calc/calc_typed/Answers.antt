@@ -1,11 +1,11 @@
 use Rattle.std.proofs.Common.{◌≡◌, List, Bool, true, ◌&&◌, [], ◌∷◌, ap, sym, ◌∙◌}
-use Rattle.typing_rules.specs.declared.stop.Fault.{Fault}
-use Rattle.typing_rules.specs.declared.stop.Fault.TheVariants.{WrongRole, NameTwice, TooManyComponents}
-use Rattle.typing_rules.proofs.Sound.{left}
-use Rattle.clause_trees.proofs.Typed.{items_well_typed}
-use Rattle.clause_trees.specs.declared.clause.CheckedClause.TheVariants as clause
-use Rattle.clause_trees.specs.After.{calculated}
-use Rattle.clause_trees.specs.Clauses.{may_calculate, targets_differ, has_room}
+use Rattle.scalar_trees.specs.declared.typing.stop.Fault.{Fault}
+use Rattle.scalar_trees.specs.declared.typing.stop.Fault.TheVariants.{WrongRole, NameTwice, TooManyComponents}
+use Rattle.scalar_trees.proofs.typing.Sound.{left}
+use Rattle.data_set_trees.proofs.clauses.Typed.{items_well_typed}
+use Rattle.data_set_trees.specs.declared.clauses.clause.CheckedClause.TheVariants as clause
+use Rattle.data_set_trees.specs.clauses.After.{calculated}
+use Rattle.data_set_trees.specs.clauses.Clauses.{may_calculate, targets_differ, has_room}
 use Rattle.clause_typing.proofs.Demanding.{hold, refuses}
 use Rattle.clause_typing.proofs.calc.calc_typed.Goals as goal
 

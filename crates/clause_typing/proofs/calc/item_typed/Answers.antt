@@ -1,4 +1,4 @@
-use Rattle.clause_trees.specs.WellTyped.{kinds_on}
+use Rattle.data_set_trees.specs.clauses.WellTyped.{kinds_on}
 use Rattle.clause_typing.proofs.OfKinds.{whole_is}
 use Rattle.clause_typing.proofs.calc.item_typed.Goals as goal
 

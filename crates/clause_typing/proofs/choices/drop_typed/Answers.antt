@@ -1,9 +1,9 @@
 use Rattle.std.proofs.Common.{◌≡◌, List, Bool, true, ◌&&◌, [], ◌∷◌, ap, sym, ◌∙◌}
-use Rattle.typing_rules.specs.declared.stop.Fault.{Fault}
-use Rattle.typing_rules.specs.declared.stop.Fault.TheVariants.{UnknownComponent, WrongRole}
-use Rattle.typing_rules.proofs.Sound.{left, right}
-use Rattle.clause_trees.specs.declared.clause.CheckedClause.TheVariants as clause
-use Rattle.clause_trees.specs.Clauses.{are_known, may_drop, numbers_named}
+use Rattle.scalar_trees.specs.declared.typing.stop.Fault.{Fault}
+use Rattle.scalar_trees.specs.declared.typing.stop.Fault.TheVariants.{UnknownComponent, WrongRole}
+use Rattle.scalar_trees.proofs.typing.Sound.{left, right}
+use Rattle.data_set_trees.specs.declared.clauses.clause.CheckedClause.TheVariants as clause
+use Rattle.data_set_trees.specs.clauses.Clauses.{are_known, may_drop, numbers_named}
 use Rattle.clause_typing.proofs.Demanding.{hold, refuses}
 use Rattle.clause_typing.proofs.choices.drop_typed.Goals as goal
 

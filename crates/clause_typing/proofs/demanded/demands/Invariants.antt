@@ -1,5 +1,5 @@
 use Rattle.std.proofs.Common.{◌≡◌, drop}
-use Rattle.clause_trees.specs.Clauses.{demands}
+use Rattle.data_set_trees.specs.clauses.Clauses.{demands}
 use Rattle.clause_typing.proofs.demanded.demands.Given as goal
 
 abbrev pub invariant-loop-holds : goal.invariant-loop-holds

@@ -1,5 +1,5 @@
 use Rattle.std.proofs.Common.{ap, ◌∙◌}
-use Rattle.clause_trees.specs.Clauses.{all_differ, is_same_name}
+use Rattle.data_set_trees.specs.clauses.Clauses.{all_differ, is_same_name}
 use Rattle.clause_typing.specs.Keys.{full_name, name_of}
 use Rattle.clause_typing.proofs.Differing.{Next, one_more, repeated, all_seen}
 use Rattle.clause_typing.proofs.Keys.{names_keyed}

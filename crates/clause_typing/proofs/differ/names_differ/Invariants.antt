@@ -1,4 +1,4 @@
-use Rattle.clause_trees.specs.Clauses.{is_same_name}
+use Rattle.data_set_trees.specs.clauses.Clauses.{is_same_name}
 use Rattle.clause_typing.specs.Keys.{full_name, name_of}
 use Rattle.clause_typing.proofs.Differing.{Seen}
 use Rattle.clause_typing.proofs.differ.names_differ.Given as goal

@@ -1,5 +1,5 @@
 use Rattle.std.proofs.Common.{ℕ, nat_eq, refl}
-use Rattle.clause_trees.specs.declared.clause.CheckedRename.{CheckedRename}
+use Rattle.data_set_trees.specs.declared.clauses.clause.CheckedRename.{CheckedRename}
 use Rattle.clause_typing.proofs.Differing.{Next, one_more, repeated, all_seen}
 use Rattle.clause_typing.proofs.Keys.{renames_keyed}
 use Rattle.clause_typing.proofs.differ.renamed_once.Goals as goal

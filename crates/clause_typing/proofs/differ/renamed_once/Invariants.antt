@@ -1,5 +1,5 @@
 use Rattle.std.proofs.Common.{ℕ, nat_eq}
-use Rattle.clause_trees.specs.declared.clause.CheckedRename.{CheckedRename}
+use Rattle.data_set_trees.specs.declared.clauses.clause.CheckedRename.{CheckedRename}
 use Rattle.clause_typing.proofs.Differing.{Seen}
 use Rattle.clause_typing.proofs.differ.renamed_once.Given as goal
 

@@ -1,5 +1,5 @@
-use Rattle.clause_trees.specs.declared.clause.CheckedItem.{CheckedItem}
-use Rattle.clause_trees.specs.Clauses.{is_same_target}
+use Rattle.data_set_trees.specs.declared.clauses.clause.CheckedItem.{CheckedItem}
+use Rattle.data_set_trees.specs.clauses.Clauses.{is_same_target}
 use Rattle.clause_typing.specs.Keys.{target_of}
 use Rattle.clause_typing.proofs.Differing.{Next, one_more, repeated, all_seen}
 use Rattle.clause_typing.proofs.Keys.{targets_keyed}

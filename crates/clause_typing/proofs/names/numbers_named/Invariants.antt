@@ -1,6 +1,6 @@
 use Rattle.std.proofs.Common.{◌≡◌, ◌++◌, drop}
 use Rattle.std.specs.Prelude.{filter_map}
-use Rattle.clause_trees.specs.Clauses.{number_of}
+use Rattle.data_set_trees.specs.clauses.Clauses.{number_of}
 use Rattle.clause_typing.proofs.names.numbers_named.Given as goal
 
 abbrev pub invariant-loop-name : goal.invariant-loop-name

@@ -1,6 +1,6 @@
 use Rattle.std.proofs.Common.{◌≡◌, ◌++◌, drop}
-use Rattle.clause_trees.specs.Frames.{numbers_from}
-use Rattle.clause_trees.specs.After.{is_kept}
+use Rattle.data_set_trees.specs.clauses.Frames.{numbers_from}
+use Rattle.data_set_trees.specs.clauses.After.{is_kept}
 use Rattle.clause_typing.proofs.numbers.numbers_kept.Given as goal
 
 abbrev pub invariant-loop-i : goal.invariant-loop-i

@@ -1,5 +1,5 @@
 use Rattle.std.proofs.Common.{◌≡◌, ◌++◌, drop}
-use Rattle.clause_trees.specs.Frames.{numbers_from, numbers_of, has_role}
+use Rattle.data_set_trees.specs.clauses.Frames.{numbers_from, numbers_of, has_role}
 use Rattle.clause_typing.proofs.numbers.push_role.Given as goal
 
 abbrev pub invariant-loop-i : goal.invariant-loop-i

@@ -1,7 +1,7 @@
 use Rattle.std.proofs.Common.{◌++◌, drop, ◌+◌, List, Option, ℕ, ap, ◌∙◌, sym}
 use Rattle.std.specs.Prelude.{filter_map, option_map}
-use Rattle.typing_rules.specs.declared.scope.ScopeName.{ScopeName}
-use Rattle.clause_trees.specs.Frames.{moved_name}
+use Rattle.scalar_trees.specs.declared.typing.scope.ScopeName.{ScopeName}
+use Rattle.data_set_trees.specs.clauses.Frames.{moved_name}
 use Rattle.clause_typing.proofs.Walks.{kept, passed}
 use Rattle.clause_typing.proofs.parts.moved_names.Goals as goal
 use Rattle.clause_typing.proofs.parts.moved_names.Goals.{in-Some+in_ok-push, in_default}

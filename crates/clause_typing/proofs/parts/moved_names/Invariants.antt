@@ -1,6 +1,6 @@
 use Rattle.std.proofs.Common.{◌≡◌, ◌++◌, drop}
 use Rattle.std.specs.Prelude.{filter_map}
-use Rattle.clause_trees.specs.Frames.{moved_name}
+use Rattle.data_set_trees.specs.clauses.Frames.{moved_name}
 use Rattle.clause_typing.proofs.parts.moved_names.Given as goal
 
 abbrev pub invariant-loop-name : goal.invariant-loop-name

@@ -1,5 +1,5 @@
 use Rattle.vtl_values.specs.declared.kind.Kind.TheVariants.{Truth}
-use Rattle.clause_trees.specs.WellTyped.{kinds_on}
+use Rattle.data_set_trees.specs.clauses.WellTyped.{kinds_on}
 use Rattle.clause_typing.proofs.OfKinds.{wanted_is}
 use Rattle.clause_typing.proofs.points.filter_typed.Goals as goal
 

@@ -1,6 +1,6 @@
 use Rattle.std.proofs.Common.{◌≡◌, ◌++◌, drop}
 use Rattle.std.specs.Prelude.{filter_map}
-use Rattle.clause_trees.specs.Clauses.{rename_checked}
+use Rattle.data_set_trees.specs.clauses.Clauses.{rename_checked}
 use Rattle.clause_typing.proofs.rename.all_checked.Given as goal
 
 abbrev pub invariant-loop-renaming : goal.invariant-loop-renaming

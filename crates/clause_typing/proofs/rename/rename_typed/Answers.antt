@@ -1,12 +1,12 @@
 use Rattle.std.proofs.Common.{◌≡◌, List, Bool, true, [], ◌∷◌, ap, sym, subst, ◌∙◌}
 use Rattle.std.specs.List.{list_all}
-use Rattle.typing_rules.specs.declared.stop.Fault.{Fault}
-use Rattle.typing_rules.specs.declared.stop.Fault.TheVariants.{UnknownComponent, NameTwice}
-use Rattle.clause_trees.specs.declared.clause.CheckedClause.TheVariants as clause
-use Rattle.clause_trees.specs.declared.clause.CheckedRename.{CheckedRename}
-use Rattle.clause_trees.specs.WellTyped.{is_component}
-use Rattle.clause_trees.proofs.Typed.{renames_there}
-use Rattle.clause_trees.specs.Clauses.{are_known_renames, renames_checked, renames_differ}
+use Rattle.scalar_trees.specs.declared.typing.stop.Fault.{Fault}
+use Rattle.scalar_trees.specs.declared.typing.stop.Fault.TheVariants.{UnknownComponent, NameTwice}
+use Rattle.data_set_trees.specs.declared.clauses.clause.CheckedClause.TheVariants as clause
+use Rattle.data_set_trees.specs.declared.clauses.clause.CheckedRename.{CheckedRename}
+use Rattle.data_set_trees.specs.clauses.WellTyped.{is_component}
+use Rattle.data_set_trees.proofs.clauses.Typed.{renames_there}
+use Rattle.data_set_trees.specs.clauses.Clauses.{are_known_renames, renames_checked, renames_differ}
 use Rattle.clause_typing.proofs.Demanding.{refuses}
 use Rattle.clause_typing.proofs.rename.rename_typed.Goals as goal
 

@@ -1,7 +1,7 @@
 use Rattle.std.proofs.Common.{◌++◌, drop, ◌+◌, List, ap, ◌∙◌, sym}
 use Rattle.std.specs.Prelude.{filter_map}
-use Rattle.clause_trees.specs.declared.clause.CheckedSubItem.{CheckedSubItem}
-use Rattle.clause_trees.specs.Clauses.{sub_checked}
+use Rattle.data_set_trees.specs.declared.clauses.clause.CheckedSubItem.{CheckedSubItem}
+use Rattle.data_set_trees.specs.clauses.Clauses.{sub_checked}
 use Rattle.clause_typing.proofs.Walks.{kept, passed}
 use Rattle.clause_typing.proofs.sub.all_checked.Goals as goal
 use Rattle.clause_typing.proofs.sub.all_checked.Goals.{in-Some+in_ok-push, in_default}

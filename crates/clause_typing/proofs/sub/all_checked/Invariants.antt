@@ -1,6 +1,6 @@
 use Rattle.std.proofs.Common.{◌≡◌, ◌++◌, drop}
 use Rattle.std.specs.Prelude.{filter_map}
-use Rattle.clause_trees.specs.Clauses.{sub_checked}
+use Rattle.data_set_trees.specs.clauses.Clauses.{sub_checked}
 use Rattle.clause_typing.proofs.sub.all_checked.Given as goal
 
 abbrev pub invariant-loop-item : goal.invariant-loop-item

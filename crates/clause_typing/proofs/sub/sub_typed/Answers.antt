@@ -1,10 +1,10 @@
 use Rattle.std.proofs.Common.{◌≡◌, List, Bool, true, ◌&&◌, Ok, [], ◌∷◌, ap, sym, ◌∙◌}
-use Rattle.typing_rules.specs.declared.stop.Fault.{Fault}
-use Rattle.typing_rules.specs.declared.stop.Fault.TheVariants.{UnknownComponent, WrongType, WrongRole, BadConstant}
-use Rattle.typing_rules.proofs.Sound.{both, left, right}
-use Rattle.clause_trees.specs.declared.clause.CheckedClause.TheVariants as clause
-use Rattle.clause_trees.specs.declared.clause.CheckedSubItem.{CheckedSubItem}
-use Rattle.clause_trees.specs.Clauses.{are_known_items, subs_checked, are_comparable, are_identifiers, are_present}
+use Rattle.scalar_trees.specs.declared.typing.stop.Fault.{Fault}
+use Rattle.scalar_trees.specs.declared.typing.stop.Fault.TheVariants.{UnknownComponent, WrongType, WrongRole, BadConstant}
+use Rattle.scalar_trees.proofs.typing.Sound.{both, left, right}
+use Rattle.data_set_trees.specs.declared.clauses.clause.CheckedClause.TheVariants as clause
+use Rattle.data_set_trees.specs.declared.clauses.clause.CheckedSubItem.{CheckedSubItem}
+use Rattle.data_set_trees.specs.clauses.Clauses.{are_known_items, subs_checked, are_comparable, are_identifiers, are_present}
 use Rattle.clause_typing.proofs.Demanding.{hold, passes, refuses}
 use Rattle.clause_typing.proofs.sub.sub_typed.Goals as goal
 

@@ -1,7 +1,7 @@
 use Rattle.std.proofs.Common.{true, ◌&&◌, [], ◌∷◌, ap, sym, ◌∙◌}
-use Rattle.typing_rules.specs.declared.stop.Fault.TheVariants.{WrongType, WrongStructure, NameTwice, TooManyComponents}
-use Rattle.typing_rules.proofs.Sound.{left}
-use Rattle.clause_trees.specs.Clauses.{are_alike}
+use Rattle.scalar_trees.specs.declared.typing.stop.Fault.TheVariants.{WrongType, WrongStructure, NameTwice, TooManyComponents}
+use Rattle.scalar_trees.proofs.typing.Sound.{left}
+use Rattle.data_set_trees.specs.clauses.Clauses.{are_alike}
 use Rattle.clause_typing.proofs.Demanding.{hold}
 use Rattle.clause_typing.proofs.unpivot.unpivot_typed.Goals as goal
 

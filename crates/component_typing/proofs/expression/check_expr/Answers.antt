@@ -1,4 +1,4 @@
-use Rattle.typing_rules.specs.Scopes.{kinds_of}
+use Rattle.scalar_trees.specs.typing.Scopes.{kinds_of}
 use Rattle.component_typing.proofs.Steps.{whole_typed}
 use Rattle.component_typing.proofs.expression.check_expr.Goals as goal
 

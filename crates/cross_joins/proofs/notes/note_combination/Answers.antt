@@ -9,7 +9,7 @@ use Rattle.data_model.specs.Drafts.{note_value}
 use Rattle.point_sets.specs.Changes.{values_eq, values_of}
 use Rattle.point_sets.specs.declared.point.Point.{Point}
 use Rattle.held_index.specs.Drafts.{SetDraft}
-use Rattle.join_meaning.specs.Joins.{joined_point}
+use Rattle.operator_meaning.specs.joins.Joins.{joined_point}
 use Rattle.cross_joins.specs.Rows.{RowValues, rows_in, shared_row}
 use Rattle.cross_joins.proofs.notes.note_combination.Goals as goal
 

@@ -1,8 +1,8 @@
 use Rattle.std.proofs.Common.{◌≡◌, map, ap, sym, subst, ◌∙◌}
 use Rattle.vtl_values.specs.Structures.{IsStructure}
-use Rattle.clause_trees.specs.declared.frame.Frame.{Frame}
-use Rattle.clause_trees.specs.Frames.{frame_of}
-use Rattle.clause_trees.specs.After.{after}
+use Rattle.data_set_trees.specs.declared.clauses.frame.Frame.{Frame}
+use Rattle.data_set_trees.specs.clauses.Frames.{frame_of}
+use Rattle.data_set_trees.specs.clauses.After.{after}
 use Rattle.data_set_trees.specs.Components.{unlisted}
 use Rattle.data_set_parts.specs.Results.{structure_after}
 use Rattle.data_set_parts.proofs.clauses.structure_after.Goals as goal

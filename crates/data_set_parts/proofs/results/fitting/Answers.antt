@@ -1,8 +1,8 @@
 use Rattle.std.proofs.Common.{[], ◌∷◌, length, sym, subst}
 use Rattle.std.specs.Prelude.{nat_le}
 use Rattle.vtl_values.specs.Structures.{IsStructure}
-use Rattle.typing_rules.specs.declared.stop.Fault.TheVariants.{NameTwice, TooManyComponents}
-use Rattle.clause_trees.specs.Clauses.{MOST_COMPONENTS}
+use Rattle.scalar_trees.specs.declared.typing.stop.Fault.TheVariants.{NameTwice, TooManyComponents}
+use Rattle.data_set_trees.specs.clauses.Clauses.{MOST_COMPONENTS}
 use Rattle.data_set_trees.specs.Components.{names_differ}
 use Rattle.data_set_parts.proofs.Follows.{first_met}
 use Rattle.data_set_parts.proofs.results.fitting.Goals as goal

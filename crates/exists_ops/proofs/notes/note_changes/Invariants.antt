@@ -2,7 +2,7 @@ use Rattle.std.proofs.Common.{◌≡◌, ◌≤◌, ◌+◌, [], length, map, mi
 use Rattle.std.specs.FinMap.{entries}
 use Rattle.point_sets.specs.Changes.{Changes, change_entry}
 use Rattle.held_index.specs.Holdings.{Holding}
-use Rattle.exists_meaning.specs.Exists.{ExistsOn}
+use Rattle.operator_meaning.specs.exists.Exists.{ExistsOn}
 use Rattle.exists_ops.specs.Noted.{IsFor, IsNoted}
 use Rattle.exists_ops.specs.Parts.{AreShifts, left_numbers, right_numbers}
 use Rattle.exists_ops.proofs.notes.note_changes.Given as goal

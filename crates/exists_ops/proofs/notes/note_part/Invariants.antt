@@ -2,7 +2,7 @@ use Rattle.std.proofs.Common.{◌≤◌, ◌+◌, ◌*◌, List, ◌++◌, map, 
 use Rattle.vtl_values.specs.declared.value.Value.{Value}
 use Rattle.point_sets.specs.Changes.{Changes}
 use Rattle.held_index.specs.Holdings.{Holding, part_of}
-use Rattle.exists_meaning.specs.Exists.{ExistsOn}
+use Rattle.operator_meaning.specs.exists.Exists.{ExistsOn}
 use Rattle.exists_ops.specs.Noted.{IsFor, IsMetIn, IsNoted}
 use Rattle.exists_ops.proofs.notes.note_part.Given as goal
 

@@ -4,7 +4,7 @@ use Rattle.std.specs.FinMap.{entries}
 use Rattle.vtl_values.specs.declared.value.Value.{Value}
 use Rattle.vtl_values.specs.Order.{key_cmp}
 use Rattle.point_sets.specs.Changes.{Changes}
-use Rattle.exists_meaning.specs.Exists.{ExistsOn}
+use Rattle.operator_meaning.specs.exists.Exists.{ExistsOn}
 use Rattle.exists_ops.specs.Noted.{IsFor, IsNoted}
 use Rattle.exists_ops.specs.Parts.{AreShifts, right_numbers}
 use Rattle.exists_ops.specs.Walked.{walked, cost}

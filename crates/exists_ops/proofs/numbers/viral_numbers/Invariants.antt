@@ -1,6 +1,6 @@
 use Rattle.std.proofs.Common.{◌≡◌, ◌++◌, drop}
 use Rattle.vtl_values.specs.declared.kind.Role.TheVariants.{Viral}
-use Rattle.clause_trees.specs.Frames.{has_role, numbers_from}
+use Rattle.data_set_trees.specs.clauses.Frames.{has_role, numbers_from}
 use Rattle.exists_ops.proofs.numbers.viral_numbers.Given as goal
 
 abbrev pub invariant-loop-i : goal.invariant-loop-i

@@ -7,7 +7,7 @@ use Rattle.point_sets.specs.Changes.{Changes}
 use Rattle.point_sets.specs.declared.point.Point.{Point}
 use Rattle.held_index.specs.Holdings.{Holding, operand}
 use Rattle.held_index.specs.Rules.{after_news}
-use Rattle.join_meaning.specs.Joins.{JoinOn}
+use Rattle.operator_meaning.specs.joins.Joins.{JoinOn}
 use Rattle.outer_joins.proofs.Looked.{own-more, points-end}
 use Rattle.inner_joins.proofs.Behind.{many, many-after, operand-at}
 use Rattle.inner_joins.proofs.notes.look_all.Goals as goal

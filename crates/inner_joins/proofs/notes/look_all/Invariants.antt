@@ -3,7 +3,7 @@ use Rattle.std.specs.Arc.{arc_value}
 use Rattle.point_sets.specs.Changes.{values_of}
 use Rattle.point_sets.specs.DataSets.{DataSet}
 use Rattle.held_index.specs.Rules.{after_news}
-use Rattle.join_meaning.specs.Joins.{own_places, points_at}
+use Rattle.operator_meaning.specs.joins.Joins.{own_places, points_at}
 use Rattle.outer_joins.proofs.Looked.{points_from}
 use Rattle.inner_joins.specs.Noted.{AreBehind, IsMet}
 use Rattle.inner_joins.proofs.notes.look_all.Given as goal

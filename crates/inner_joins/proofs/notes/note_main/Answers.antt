@@ -7,7 +7,7 @@ use Rattle.vtl_values.specs.declared.value.Value.{Value}
 use Rattle.point_sets.specs.Changes.{Changes, change_entry}
 use Rattle.point_sets.specs.declared.delta.Change.{Change}
 use Rattle.held_index.specs.Holdings.{Holding}
-use Rattle.join_meaning.specs.Joins.{JoinOn}
+use Rattle.operator_meaning.specs.joins.Joins.{JoinOn}
 use Rattle.outer_joins.proofs.Looked.{keys-all, one-more}
 use Rattle.inner_joins.specs.Noted.{news_of}
 use Rattle.inner_joins.specs.Rules.{key_from, main_number}

@@ -4,7 +4,7 @@ use Rattle.point_sets.specs.Changes.{Changes, values_of}
 use Rattle.point_sets.specs.DataSets.{DataSet}
 use Rattle.held_index.specs.Drafts.{SetDraft}
 use Rattle.held_index.specs.Holdings.{Holding}
-use Rattle.join_meaning.specs.Joins.{JoinOn}
+use Rattle.operator_meaning.specs.joins.Joins.{JoinOn}
 use Rattle.outer_joins.proofs.Looked.{on-ok}
 use Rattle.inner_joins.specs.Noted.{noted_key, AreBehind, IsMet, Notes}
 use Rattle.inner_joins.specs.Rules.{key_from}

@@ -8,7 +8,7 @@ use Rattle.point_sets.specs.DataSets.{DataSet}
 use Rattle.point_sets.specs.declared.point.Point.{Point}
 use Rattle.held_index.specs.Drafts.{SetDraft}
 use Rattle.held_index.specs.Holdings.{Holding}
-use Rattle.join_meaning.specs.Joins.{JoinOn, joined_point}
+use Rattle.operator_meaning.specs.joins.Joins.{JoinOn, joined_point}
 use Rattle.outer_joins.proofs.Looked.{on-ok}
 use Rattle.inner_joins.specs.Noted.{noted_key, AreBehind, IsMet}
 use Rattle.inner_joins.proofs.Sights.{noted-same}

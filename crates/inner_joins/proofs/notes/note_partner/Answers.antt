@@ -9,7 +9,7 @@ use Rattle.vtl_values.specs.declared.value.Value.{Value}
 use Rattle.point_sets.specs.Changes.{Changes, change_entry}
 use Rattle.point_sets.specs.declared.delta.Change.{Change}
 use Rattle.held_index.specs.Holdings.{Holding}
-use Rattle.join_meaning.specs.Joins.{JoinOn}
+use Rattle.operator_meaning.specs.joins.Joins.{JoinOn}
 use Rattle.pair_ops.specs.Noted.{part_steps, walk_steps}
 use Rattle.pair_ops.proofs.Folds.{sum_by-changes}
 use Rattle.inner_joins.specs.Noted.{held_for, keys_met, news_of}

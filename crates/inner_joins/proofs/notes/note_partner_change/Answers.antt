@@ -11,7 +11,7 @@ use Rattle.point_sets.specs.Changes.{Changes}
 use Rattle.point_sets.specs.DataSets.{entry_of}
 use Rattle.held_index.specs.Holdings.{Holding, part_of}
 use Rattle.held_index.specs.Walks.{PointValues}
-use Rattle.join_meaning.specs.Joins.{JoinOn}
+use Rattle.operator_meaning.specs.joins.Joins.{JoinOn}
 use Rattle.inner_joins.specs.Noted.{held_for, keys_met, news_of, noted_key, points_met}
 use Rattle.inner_joins.specs.Rules.{key_from, main_number}
 use Rattle.inner_joins.proofs.Counted.{point-end, point-more}

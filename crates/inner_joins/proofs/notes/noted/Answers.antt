@@ -8,7 +8,7 @@ use Rattle.std.proofs.lemmas.List.Sums.{sum_by_more, sum_by_more_le}
 use Rattle.data_model.specs.Drafts.{nothing}
 use Rattle.point_sets.specs.Changes.{Changes}
 use Rattle.held_index.specs.Holdings.{Holding}
-use Rattle.join_meaning.specs.Joins.{JoinOn}
+use Rattle.operator_meaning.specs.joins.Joins.{JoinOn}
 use Rattle.inner_joins.specs.Noted.{all_keys, keys_of}
 use Rattle.inner_joins.specs.Reach.{steps_for}
 use Rattle.inner_joins.proofs.Folded.{notes-keys, notes-none, notes-same}

@@ -6,7 +6,7 @@ use Rattle.std.specs.Result.{IfOk}
 use Rattle.data_model.specs.Deltas.{apply}
 use Rattle.point_sets.specs.Changes.{Changes, values_of}
 use Rattle.held_index.specs.Holdings.{Holding, IsPlain}
-use Rattle.join_meaning.specs.Joins.{JoinOn}
+use Rattle.operator_meaning.specs.joins.Joins.{JoinOn}
 use Rattle.join_eval.specs.Plans.{own_key}
 use Rattle.inner_joins.specs.Noted.{news_of}
 use Rattle.inner_joins.specs.Rules.{main_number, place_of}

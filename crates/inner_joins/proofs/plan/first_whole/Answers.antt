@@ -1,7 +1,7 @@
 use Rattle.std.proofs.Common.{List, [], length, sym, ap, ◌∙◌, arith}
 use Rattle.std.proofs.lemmas.List.Sums.{position_or_len_is}
 use Rattle.vtl_values.specs.declared.structure.Component.{Component}
-use Rattle.join_meaning.specs.Joins.{is_whole}
+use Rattle.operator_meaning.specs.joins.Joins.{is_whole}
 use Rattle.inner_joins.proofs.plan.first_whole.Goals as goal
 
 pub returns-then-is_whole : goal.returns-then-is_whole

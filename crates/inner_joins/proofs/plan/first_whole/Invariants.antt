@@ -1,5 +1,5 @@
 use Rattle.std.proofs.Common.{◌≡◌, ℕ, ◌<◌, false}
-use Rattle.join_meaning.specs.Joins.{is_whole}
+use Rattle.operator_meaning.specs.joins.Joins.{is_whole}
 use Rattle.join_eval.specs.Plans.{structure_of}
 use Rattle.inner_joins.proofs.plan.first_whole.Given as goal
 

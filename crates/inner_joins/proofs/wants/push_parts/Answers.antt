@@ -1,7 +1,7 @@
 use Rattle.std.proofs.Common.{◌≡◌, ap, ◌∙◌}
 use Rattle.data_set_trees.specs.Components.{identifiers}
 use Rattle.held_index.specs.Wants.{in_parts}
-use Rattle.join_meaning.specs.Joins.{JoinOn, numbers_among}
+use Rattle.operator_meaning.specs.joins.Joins.{JoinOn, numbers_among}
 use Rattle.join_eval.specs.Plans.{structure_of}
 use Rattle.inner_joins.specs.Rules.{main_number, number_at, parts_for, partner_numbers}
 use Rattle.inner_joins.proofs.Wanted.{wants-more}

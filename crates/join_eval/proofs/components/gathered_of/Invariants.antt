@@ -1,6 +1,6 @@
 use Rattle.std.proofs.Common.{◌≡◌, [], map, drop}
 use Rattle.std.specs.Prelude.{filter}
-use Rattle.clause_trees.specs.Frames.{has_role}
+use Rattle.data_set_trees.specs.clauses.Frames.{has_role}
 use Rattle.data_set_trees.specs.Joins.{gathered}
 use Rattle.join_eval.proofs.components.gathered_of.Given as goal
 

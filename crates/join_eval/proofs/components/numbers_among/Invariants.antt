@@ -1,5 +1,5 @@
 use Rattle.std.proofs.Common.{◌≡◌, ◌++◌, drop}
-use Rattle.join_meaning.specs.Joins.{numbers_among}
+use Rattle.operator_meaning.specs.joins.Joins.{numbers_among}
 use Rattle.join_eval.proofs.components.numbers_among.Given as goal
 
 abbrev pub invariant-loop-component : goal.invariant-loop-component

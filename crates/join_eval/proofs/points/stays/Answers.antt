@@ -2,8 +2,8 @@ use Rattle.std.proofs.Common.{sym, ap, ◌∙◌, map}
 use Rattle.std.specs.Option.{is_some}
 use Rattle.std.proofs.lemmas.List.Folds.{list_all-map}
 use Rattle.vtl_syntax.specs.declared.words.JoinFunction.{JoinFunction}
-use Rattle.join_meaning.specs.Joins.{stays}
-use Rattle.join_meaning.proofs.Typed.{list_any-map}
+use Rattle.operator_meaning.specs.joins.Joins.{stays}
+use Rattle.operator_meaning.proofs.joins.Typed.{list_any-map}
 use Rattle.join_eval.proofs.points.stays.Goals as goal
 
 pub returns-in-Inner : goal.returns-in-Inner

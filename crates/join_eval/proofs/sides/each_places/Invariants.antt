@@ -1,6 +1,6 @@
 use Rattle.std.proofs.Common.{◌≡◌, map, take}
 use Rattle.data_set_trees.specs.Components.{identifiers}
-use Rattle.join_meaning.specs.Joins.{numbers_among}
+use Rattle.operator_meaning.specs.joins.Joins.{numbers_among}
 use Rattle.join_eval.proofs.sides.each_places.Given as goal
 
 abbrev pub invariant-loop-operand : goal.invariant-loop-operand

@@ -1,5 +1,5 @@
 use Rattle.std.proofs.Common.{◌≡◌, ◌++◌, length, drop}
-use Rattle.join_meaning.specs.Joins.{runs}
+use Rattle.operator_meaning.specs.joins.Joins.{runs}
 use Rattle.join_eval.proofs.sides.runs.Given as goal
 
 abbrev pub invariant-loop-operand : goal.invariant-loop-operand

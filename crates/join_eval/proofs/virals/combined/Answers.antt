@@ -7,7 +7,7 @@ use Rattle.std.proofs.lemmas.Result.{IfOk-weaker}
 use Rattle.vtl_values.specs.declared.value.Value.{Value}
 use Rattle.vtl_values.specs.declared.value.Value.TheVariants.{Null}
 use Rattle.point_sets.specs.Changes.{values_of}
-use Rattle.pair_meaning.specs.Pairs.{codes_of}
+use Rattle.operator_meaning.specs.pairs.Pairs.{codes_of}
 use Rattle.join_eval.specs.Made.{value_there, higher, combined_value}
 use Rattle.join_eval.specs.declared.virals.ViralPlaces.{ViralPlaces}
 use Rattle.join_eval.proofs.Values.{best_from, best-combined, best-more}

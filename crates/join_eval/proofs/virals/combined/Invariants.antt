@@ -3,7 +3,7 @@ use Rattle.std.specs.Prelude.{unwrap_or}
 use Rattle.std.specs.Option.{option_copied}
 use Rattle.vtl_values.specs.declared.value.Value.TheVariants.{Null}
 use Rattle.point_sets.specs.Changes.{values_of}
-use Rattle.pair_meaning.specs.Pairs.{codes_of}
+use Rattle.operator_meaning.specs.pairs.Pairs.{codes_of}
 use Rattle.join_eval.proofs.Values.{best_from}
 use Rattle.join_eval.proofs.virals.combined.Given as goal
 

@@ -1,9 +1,9 @@
 use Rattle.std.proofs.Common.{◌≡◌, List, Result, Ok, map, ap, sym, ◌∙◌}
-use Rattle.typing_rules.specs.declared.stop.Fault.TheVariants.{WrongStructure}
-use Rattle.typing_rules.specs.declared.stop.Refusal.{Refusal}
-use Rattle.typing_rules.specs.Steps.{◌>>=◌, or_refused}
+use Rattle.scalar_trees.specs.declared.typing.stop.Fault.TheVariants.{WrongStructure}
+use Rattle.scalar_trees.specs.declared.typing.stop.Refusal.{Refusal}
+use Rattle.scalar_trees.specs.typing.Steps.{◌>>=◌, or_refused}
 use Rattle.operator_typing.proofs.Steps.{stops_same, stops_there, stops_after, fails_there, fails_after, goes_on}
-use Rattle.clause_trees.specs.declared.frame.Frame.{Frame}
+use Rattle.data_set_trees.specs.declared.clauses.frame.Frame.{Frame}
 use Rattle.data_set_trees.specs.declared.operand.DataSet.{DataSet}
 use Rattle.data_set_trees.specs.Joins as meant
 use Rattle.data_set_trees.specs.Sets.{all_data_sets}

@@ -1,6 +1,6 @@
 use Rattle.std.proofs.Common.{◌≡◌, Bool, [], ◌∷◌, map}
-use Rattle.typing_rules.specs.declared.stop.Fault.TheVariants.{WrongStructure, NameTwice, TooManyComponents}
-use Rattle.clause_trees.specs.Clauses.{demands}
+use Rattle.scalar_trees.specs.declared.typing.stop.Fault.TheVariants.{WrongStructure, NameTwice, TooManyComponents}
+use Rattle.data_set_trees.specs.clauses.Clauses.{demands}
 use Rattle.data_set_parts.proofs.Follows.{ok_same, err_same}
 use Rattle.join_typing.specs.Joining.{aliased, demanded_of}
 use Rattle.join_typing.proofs.beginning.demanded_of.Goals as goal

@@ -3,7 +3,7 @@ use Rattle.std.specs.List.{All, filter}
 use Rattle.std.proofs.lemmas.List.{drop_more}
 use Rattle.std.proofs.lemmas.List.Elements.{All-append}
 use Rattle.vtl_values.specs.declared.structure.Component.{Component}
-use Rattle.clause_trees.specs.Frames.{has_role}
+use Rattle.data_set_trees.specs.clauses.Frames.{has_role}
 use Rattle.data_set_trees.specs.Components.{further}
 use Rattle.data_set_trees.specs.Joins.{gathered}
 use Rattle.data_set_parts.specs.Joins.{IsOf}

@@ -1,6 +1,6 @@
 use Rattle.std.proofs.Common.{◌≡◌, ◌≤◌, ◌++◌, length, sym, subst}
 use Rattle.std.proofs.lemmas.Result.{IfOk-weaker}
-use Rattle.clause_trees.specs.Clauses.{MOST_COMPONENTS}
+use Rattle.data_set_trees.specs.clauses.Clauses.{MOST_COMPONENTS}
 use Rattle.join_typing.specs.Inside.{FitInside}
 use Rattle.join_typing.proofs.Fitting.{parts_fit}
 use Rattle.join_typing.proofs.components.join_components.Goals as goal

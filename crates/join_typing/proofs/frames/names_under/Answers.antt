@@ -2,7 +2,7 @@ use Rattle.std.proofs.Common.{◌≡◌, ◌+◌, List, ◌∷◌, ◌++◌, dro
 use Rattle.std.proofs.lemmas.List.{drop_more, append_assoc}
 use Rattle.std.specs.Prelude.{slice_get}
 use Rattle.vtl_values.specs.declared.structure.Component.{Component}
-use Rattle.typing_rules.specs.declared.scope.ScopeName.{ScopeName}
+use Rattle.scalar_trees.specs.declared.typing.scope.ScopeName.{ScopeName}
 use Rattle.data_set_trees.specs.Joins.{names_under}
 use Rattle.join_typing.specs.Joining.{names_of}
 use Rattle.join_typing.proofs.Naming.{one_named}

@@ -3,7 +3,7 @@ use Rattle.std.proofs.lemmas.Bool.{ltb-false}
 use Rattle.std.proofs.lemmas.List.{append-nil}
 use Rattle.std.proofs.lemmas.Option.{slice_get_past}
 use Rattle.std.proofs.Common.{length}
-use Rattle.typing_rules.specs.declared.scope.ScopeName.{ScopeName}
+use Rattle.scalar_trees.specs.declared.typing.scope.ScopeName.{ScopeName}
 use Rattle.data_set_trees.specs.Joins.{Titles}
 use Rattle.join_typing.specs.Joining.{names_of}
 use Rattle.join_typing.proofs.frames.push_under.Goals as goal

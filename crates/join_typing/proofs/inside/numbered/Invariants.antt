@@ -1,5 +1,5 @@
 use Rattle.std.proofs.Common.{◌≡◌, ◌≤◌, ◌++◌, map, drop, length}
-use Rattle.clause_trees.specs.Clauses.{MOST_COMPONENTS}
+use Rattle.data_set_trees.specs.clauses.Clauses.{MOST_COMPONENTS}
 use Rattle.data_set_trees.specs.Components.{unlisted}
 use Rattle.data_set_trees.specs.Joins.{numbered}
 use Rattle.join_typing.proofs.inside.numbered.Given as goal

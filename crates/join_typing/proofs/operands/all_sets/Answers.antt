@@ -1,9 +1,9 @@
 use Rattle.std.proofs.Common.{◌≡◌, Bool, Result, Ok, ap, sym, subst, ◌∙◌}
 use Rattle.std.specs.Prelude.{List, IfErr}
 use Rattle.std.specs.List.{list_all}
-use Rattle.typing_rules.specs.declared.stop.Fault.TheVariants.{WrongStructure}
-use Rattle.typing_rules.specs.declared.stop.Refusal.{Refusal}
-use Rattle.typing_rules.specs.Steps.{Refuses, demanded}
+use Rattle.scalar_trees.specs.declared.typing.stop.Fault.TheVariants.{WrongStructure}
+use Rattle.scalar_trees.specs.declared.typing.stop.Refusal.{Refusal}
+use Rattle.scalar_trees.specs.typing.Steps.{Refuses, demanded}
 use Rattle.operator_typing.proofs.Steps.{stops_same, fails_there, goes_on}
 use Rattle.data_set_trees.specs.declared.operand.DataSet.{DataSet}
 use Rattle.data_set_trees.specs.Trees.{data_sets}

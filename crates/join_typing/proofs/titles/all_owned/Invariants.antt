@@ -1,6 +1,6 @@
 use Rattle.std.proofs.Common.{◌≡◌, ◌++◌, map, drop}
 use Rattle.std.specs.List.{filter, flat_map}
-use Rattle.clause_trees.specs.Frames.{has_role}
+use Rattle.data_set_trees.specs.clauses.Frames.{has_role}
 use Rattle.data_set_trees.specs.Joins.{owned}
 use Rattle.join_typing.specs.Joining.{aliased}
 use Rattle.join_typing.proofs.titles.all_owned.Given as goal

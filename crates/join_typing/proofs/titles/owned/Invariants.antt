@@ -1,7 +1,7 @@
 use Rattle.std.proofs.Common.{◌≡◌, ◌++◌, [], ◌∷◌, Some, List, Option, ℕ, map, drop}
 use Rattle.std.specs.List.{filter}
 use Rattle.vtl_values.specs.declared.structure.Component.{Component}
-use Rattle.clause_trees.specs.Frames.{has_role}
+use Rattle.data_set_trees.specs.clauses.Frames.{has_role}
 use Rattle.join_typing.proofs.titles.owned.Given as goal
 
 abbrev pub invariant-loop-component : goal.invariant-loop-component

@@ -2,8 +2,8 @@ use Rattle.std.proofs.Common.{Ok, ap}
 use Rattle.vtl_values.specs.declared.kind.Kind.TheVariants.{Truth}
 use Rattle.scalar_trees.specs.declared.tree.CheckedExpr.TheVariants as tree
 use Rattle.scalar_trees.specs.Kinds.{ANY}
-use Rattle.typing_rules.specs.Steps.{◌>>=◌}
-use Rattle.typing_rules.specs.Scalars.{wanted, agreeing, typed_as}
+use Rattle.scalar_trees.specs.typing.Steps.{◌>>=◌}
+use Rattle.scalar_trees.specs.typing.Scalars.{wanted, agreeing, typed_as}
 use Rattle.operator_typing.proofs.Steps.{stops_same, stops_there, fails_there, fails_after}
 use Rattle.operator_typing.proofs.choices.if_typed.Goals as goal
 

@@ -1,9 +1,9 @@
 use Rattle.std.proofs.Common.{[], ◌∷◌, None, Ok, ap, sym, ◌∙◌, if◌then◌else◌}
-use Rattle.typing_rules.specs.declared.stop.Fault.TheVariants.{WrongStructure}
+use Rattle.scalar_trees.specs.declared.typing.stop.Fault.TheVariants.{WrongStructure}
 use Rattle.scalar_trees.specs.declared.tree.CheckedExpr.TheVariants as tree
 use Rattle.scalar_trees.specs.Kinds.{aggregate_takes, aggregate_gives}
-use Rattle.typing_rules.specs.Steps.{◌>>=◌, or_refused}
-use Rattle.typing_rules.specs.Scalars.{joint, typed_as, component_number}
+use Rattle.scalar_trees.specs.typing.Steps.{◌>>=◌, or_refused}
+use Rattle.scalar_trees.specs.typing.Scalars.{joint, typed_as, component_number}
 use Rattle.operator_typing.proofs.Steps.{stops_same, stops_there, fails_there, fails_after}
 use Rattle.operator_typing.proofs.groups.aggregate_typed.Goals as goal
 

@@ -1,7 +1,7 @@
 use Rattle.std.proofs.Common.{Ok}
-use Rattle.typing_rules.specs.declared.stop.Fault.TheVariants.{UnknownComponent}
-use Rattle.typing_rules.specs.Steps.{or_refused}
-use Rattle.typing_rules.specs.Scalars.{slot_typed}
+use Rattle.scalar_trees.specs.declared.typing.stop.Fault.TheVariants.{UnknownComponent}
+use Rattle.scalar_trees.specs.typing.Steps.{or_refused}
+use Rattle.scalar_trees.specs.typing.Scalars.{slot_typed}
 use Rattle.operator_typing.proofs.Steps.{fails_there}
 use Rattle.operator_typing.proofs.leaves.component_typed.Goals as goal
 

@@ -1,11 +1,11 @@
 use Rattle.std.proofs.Common.{Ok, ap}
 use Rattle.vtl_values.specs.declared.kind.Kind.TheVariants.{Number}
-use Rattle.typing_rules.specs.declared.stop.Fault.TheVariants.{BadConstant}
+use Rattle.scalar_trees.specs.declared.typing.stop.Fault.TheVariants.{BadConstant}
 use Rattle.scalar_trees.specs.declared.tree.CheckedExpr.TheVariants as tree
 use Rattle.scalar_trees.specs.WellTyped.{digits_fit}
 use Rattle.scalar_trees.specs.Kinds.{round_gives}
-use Rattle.typing_rules.specs.Steps.{◌>>=◌, demanded}
-use Rattle.typing_rules.specs.Scalars.{wanted, typed_as}
+use Rattle.scalar_trees.specs.typing.Steps.{◌>>=◌, demanded}
+use Rattle.scalar_trees.specs.typing.Scalars.{wanted, typed_as}
 use Rattle.operator_typing.proofs.Steps.{stops_same, stops_there, fails_there, fails_after}
 use Rattle.operator_typing.proofs.numbers.round_typed.Goals as goal
 

@@ -1,8 +1,8 @@
 use Rattle.std.proofs.Common.{[], ◌∷◌, Result, Ok}
 use Rattle.vtl_values.specs.declared.kind.Kind.{Kind}
-use Rattle.typing_rules.specs.declared.stop.Refusal.{Refusal}
-use Rattle.typing_rules.specs.Scalars.{Agreed, joint, widened}
-use Rattle.typing_rules.specs.Steps.{◌>>=◌}
+use Rattle.scalar_trees.specs.declared.typing.stop.Refusal.{Refusal}
+use Rattle.scalar_trees.specs.typing.Scalars.{Agreed, joint, widened}
+use Rattle.scalar_trees.specs.typing.Steps.{◌>>=◌}
 use Rattle.operator_typing.proofs.Steps.{stops_there, passed_on}
 use Rattle.operator_typing.proofs.operands.agreeing.Goals as goal
 

@@ -1,4 +1,4 @@
-use Rattle.typing_rules.specs.Scalars.{wanted}
+use Rattle.scalar_trees.specs.typing.Scalars.{wanted}
 use Rattle.operator_typing.proofs.Steps.{passed_on}
 use Rattle.operator_typing.proofs.operands.boxed_wanted.Goals as goal
 

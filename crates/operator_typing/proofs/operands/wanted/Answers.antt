@@ -1,5 +1,5 @@
 use Rattle.std.proofs.Common.{[], ◌∷◌, Ok}
-use Rattle.typing_rules.specs.Scalars.{joint, widened}
+use Rattle.scalar_trees.specs.typing.Scalars.{joint, widened}
 use Rattle.operator_typing.proofs.Steps.{fails_there}
 use Rattle.operator_typing.proofs.operands.wanted.Goals as goal
 

@@ -1,5 +1,5 @@
 use Rattle.std.proofs.Common.{◌≡◌, map, take}
-use Rattle.typing_rules.specs.Scopes.{column_of}
+use Rattle.scalar_trees.specs.typing.Scopes.{column_of}
 use Rattle.operator_typing.proofs.scopes.columns_of.Given as goal
 
 abbrev pub invariant-loop-component : goal.invariant-loop-component

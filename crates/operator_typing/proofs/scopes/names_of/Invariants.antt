@@ -1,5 +1,5 @@
 use Rattle.std.proofs.Common.{◌≡◌, ◌++◌, drop}
-use Rattle.typing_rules.specs.Scopes.{names_from}
+use Rattle.scalar_trees.specs.typing.Scopes.{names_from}
 use Rattle.operator_typing.proofs.scopes.names_of.Given as goal
 
 abbrev pub invariant-loop-i : goal.invariant-loop-i

@@ -3,7 +3,7 @@ use Rattle.vtl_values.specs.declared.kind.Kind.{Kind}
 use Rattle.vtl_values.specs.declared.kind.Kind.TheVariants.{Truth}
 use Rattle.scalar_trees.specs.declared.tree.CheckedExpr.TheVariants as tree
 use Rattle.scalar_trees.specs.Kinds.{ANY, literal_kind, widened_value}
-use Rattle.typing_rules.specs.Scalars.{joint, widened, typed_as}
+use Rattle.scalar_trees.specs.typing.Scalars.{joint, widened, typed_as}
 use Rattle.operator_typing.proofs.Steps.{stops_same, fails_there}
 use Rattle.operator_typing.proofs.sets.between_typed.Goals as goal
 

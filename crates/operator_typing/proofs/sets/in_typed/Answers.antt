@@ -2,12 +2,12 @@ use Rattle.std.proofs.Common.{List, Option, ◌∷◌, map, Ok, ap}
 use Rattle.std.specs.List.{list_all}
 use Rattle.vtl_values.specs.declared.kind.Kind.{Kind}
 use Rattle.vtl_values.specs.declared.kind.Kind.TheVariants.{Truth}
-use Rattle.typing_rules.specs.declared.stop.Fault.TheVariants.{BadConstant}
+use Rattle.scalar_trees.specs.declared.typing.stop.Fault.TheVariants.{BadConstant}
 use Rattle.scalar_trees.specs.declared.tree.CheckedExpr.TheVariants as tree
 use Rattle.scalar_trees.specs.Kinds.{ANY, literal_kind, widened_value}
 use Rattle.scalar_trees.specs.WellTyped.{is_present}
-use Rattle.typing_rules.specs.Steps.{◌>>=◌, demanded}
-use Rattle.typing_rules.specs.Scalars.{joint, widened, typed_as}
+use Rattle.scalar_trees.specs.typing.Steps.{◌>>=◌, demanded}
+use Rattle.scalar_trees.specs.typing.Scalars.{joint, widened, typed_as}
 use Rattle.operator_typing.proofs.Steps.{stops_same, stops_there, fails_there, fails_after}
 use Rattle.operator_typing.proofs.sets.in_typed.Goals as goal
 

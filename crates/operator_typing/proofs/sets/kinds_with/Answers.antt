@@ -3,7 +3,7 @@ use Rattle.std.specs.List.{list_all}
 use Rattle.std.proofs.lemmas.Grind.{common_steps}
 use Rattle.std.proofs.lemmas.List.Folds.{list_all_more}
 use Rattle.scalar_trees.specs.WellTyped.{in_range}
-use Rattle.typing_rules.proofs.Sound.{both}
+use Rattle.scalar_trees.proofs.typing.Sound.{both}
 use Rattle.operator_typing.proofs.sets.kinds_with.Goals as goal
 
 pub loop-value-preserved : goal.loop-value-preserved

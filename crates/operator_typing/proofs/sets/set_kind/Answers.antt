@@ -1,10 +1,10 @@
 use Rattle.std.proofs.Common.{◌≡◌, List, Option, Result, ◌∷◌, Ok, map, subst, ◌∙◌}
 use Rattle.std.specs.Prelude.{IfOk, IfErr}
 use Rattle.vtl_values.specs.declared.kind.Kind.{Kind}
-use Rattle.typing_rules.specs.declared.stop.Refusal.{Refusal}
+use Rattle.scalar_trees.specs.declared.typing.stop.Refusal.{Refusal}
 use Rattle.scalar_trees.specs.Kinds.{ANY, literal_kind}
-use Rattle.typing_rules.specs.Steps.{Refuses}
-use Rattle.typing_rules.specs.Scalars.{joint}
+use Rattle.scalar_trees.specs.typing.Steps.{Refuses}
+use Rattle.scalar_trees.specs.typing.Scalars.{joint}
 use Rattle.operator_typing.proofs.sets.set_kind.Goals as goal
 
 pub returns-clause-ok : goal.returns-clause-ok

@@ -1,7 +1,7 @@
 use Rattle.std.proofs.Common.{[], ◌∷◌, Ok, ap}
 use Rattle.scalar_trees.specs.declared.tree.CheckedExpr.TheVariants as tree
 use Rattle.scalar_trees.specs.Kinds.{sort_takes}
-use Rattle.typing_rules.specs.Scalars.{joint, widened, typed_as}
+use Rattle.scalar_trees.specs.typing.Scalars.{joint, widened, typed_as}
 use Rattle.operator_typing.proofs.Steps.{stops_same, fails_there}
 use Rattle.operator_typing.proofs.tables.sort_typed.Goals as goal
 

@@ -1,10 +1,10 @@
 use Rattle.std.proofs.Common.{Ok}
 use Rattle.vtl_values.specs.declared.kind.Kind.TheVariants.{Text, Truth}
-use Rattle.typing_rules.specs.declared.stop.Fault.TheVariants.{BadPattern}
+use Rattle.scalar_trees.specs.declared.typing.stop.Fault.TheVariants.{BadPattern}
 use Rattle.scalar_trees.specs.declared.tree.CheckedExpr.TheVariants as tree
 use Rattle.scalar_texts.specs.Patterns.{is_pattern}
-use Rattle.typing_rules.specs.Steps.{◌>>=◌, demanded}
-use Rattle.typing_rules.specs.Scalars.{wanted, typed_as}
+use Rattle.scalar_trees.specs.typing.Steps.{◌>>=◌, demanded}
+use Rattle.scalar_trees.specs.typing.Scalars.{wanted, typed_as}
 use Rattle.operator_typing.proofs.Steps.{stops_there, fails_there, fails_after}
 use Rattle.operator_typing.proofs.texts.matches_typed.Goals as goal
 

@@ -1,8 +1,8 @@
 use Rattle.std.proofs.Common.{Ok}
 use Rattle.vtl_values.specs.declared.kind.Kind.TheVariants.{Text}
 use Rattle.scalar_trees.specs.declared.tree.CheckedExpr.TheVariants as tree
-use Rattle.typing_rules.specs.Steps.{◌>>=◌}
-use Rattle.typing_rules.specs.Scalars.{wanted, wanted_if, typed_as}
+use Rattle.scalar_trees.specs.typing.Steps.{◌>>=◌}
+use Rattle.scalar_trees.specs.typing.Scalars.{wanted, wanted_if, typed_as}
 use Rattle.operator_typing.proofs.Steps.{stops_there, stops_after, fails_there, fails_after}
 use Rattle.operator_typing.proofs.texts.replace_typed.Goals as goal
 

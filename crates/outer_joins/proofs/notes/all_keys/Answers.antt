@@ -4,7 +4,7 @@ use Rattle.std.specs.FinMap.{keys}
 use Rattle.std.proofs.lemmas.List.{length-map, get_or_default}
 use Rattle.data_model.specs.Deltas.{Differs}
 use Rattle.point_sets.specs.Changes.{Changes}
-use Rattle.join_meaning.specs.Joins.{JoinOn, join_key}
+use Rattle.operator_meaning.specs.joins.Joins.{JoinOn, join_key}
 use Rattle.join_eval.specs.Plans.{structure_of}
 use Rattle.outer_joins.proofs.Looked.{arc-at, keys-more, keys-end}
 use Rattle.outer_joins.proofs.notes.all_keys.Goals as goal

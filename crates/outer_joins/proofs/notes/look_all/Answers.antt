@@ -9,7 +9,7 @@ use Rattle.point_sets.specs.Changes.{Changes}
 use Rattle.point_sets.specs.declared.point.Point.{Point}
 use Rattle.held_index.specs.Holdings.{AllPlain, Holding, IsPlain, contents}
 use Rattle.held_index.specs.Rules.{after_news}
-use Rattle.join_meaning.specs.Joins.{JoinOn}
+use Rattle.operator_meaning.specs.joins.Joins.{JoinOn}
 use Rattle.join_eval.specs.Plans.{own_key}
 use Rattle.outer_joins.proofs.Looked.{content-at, arc-at, after-at, as-many-after, own-more, points-end}
 use Rattle.outer_joins.proofs.notes.look_all.Goals as goal

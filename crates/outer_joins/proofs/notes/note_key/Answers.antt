@@ -7,7 +7,7 @@ use Rattle.point_sets.specs.Changes.{Changes, values_eq, values_of}
 use Rattle.point_sets.specs.declared.point.Point.{Point}
 use Rattle.held_index.specs.Drafts.{SetDraft}
 use Rattle.held_index.specs.Holdings.{AllPlain, Holding}
-use Rattle.join_meaning.specs.Joins.{JoinOn}
+use Rattle.operator_meaning.specs.joins.Joins.{JoinOn}
 use Rattle.outer_joins.specs.Noted.{noted_key}
 use Rattle.outer_joins.proofs.Looked.{on-ok, noted-same}
 use Rattle.outer_joins.proofs.notes.note_key.Goals as goal

@@ -9,7 +9,7 @@ use Rattle.held_index.specs.Drafts.{SetDraft}
 use Rattle.held_index.specs.Holdings.{Holding, contents}
 use Rattle.held_index.specs.Reach.{changes_in}
 use Rattle.held_index.specs.Rules.{after_news}
-use Rattle.join_meaning.specs.Joins.{JoinOn}
+use Rattle.operator_meaning.specs.joins.Joins.{JoinOn}
 use Rattle.outer_joins.specs.Noted.{value_at, IsNoted, all_keys_of}
 use Rattle.outer_joins.proofs.Looked.{noted-more, keys-count, one-more}
 use Rattle.outer_joins.proofs.notes.noted.Goals as goal

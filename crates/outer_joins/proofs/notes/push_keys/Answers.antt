@@ -2,7 +2,7 @@ use Rattle.std.proofs.Common.{List, ◌++◌, map, ap, ◌∙◌}
 use Rattle.std.proofs.lemmas.List.{take_all}
 use Rattle.vtl_values.specs.declared.value.Value.{Value}
 use Rattle.point_sets.specs.declared.delta.Change.{Change}
-use Rattle.join_meaning.specs.Joins.{join_key}
+use Rattle.operator_meaning.specs.joins.Joins.{join_key}
 use Rattle.join_eval.specs.Plans.{structure_of}
 use Rattle.outer_joins.proofs.Looked.{keys-all}
 use Rattle.outer_joins.proofs.notes.push_keys.Goals as goal

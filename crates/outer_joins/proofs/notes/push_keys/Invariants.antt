@@ -1,5 +1,5 @@
 use Rattle.std.proofs.Common.{◌≡◌, ◌++◌, map, take}
-use Rattle.join_meaning.specs.Joins.{join_key}
+use Rattle.operator_meaning.specs.joins.Joins.{join_key}
 use Rattle.join_eval.specs.Plans.{structure_of}
 use Rattle.outer_joins.proofs.notes.push_keys.Given as goal
 

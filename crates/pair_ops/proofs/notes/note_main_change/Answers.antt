@@ -10,7 +10,7 @@ use Rattle.point_sets.specs.DataSets.{HasKey}
 use Rattle.held_index.specs.Drafts.{SetDraft}
 use Rattle.held_index.specs.Walks.{point_values}
 use Rattle.held_index.proofs.Plain.{found_at-plain}
-use Rattle.pair_meaning.specs.Pairs.{partner_key, result_key}
+use Rattle.operator_meaning.specs.pairs.Pairs.{partner_key, result_key}
 use Rattle.pair_ops.specs.Noted.{noted_met}
 use Rattle.pair_ops.proofs.Folds.{met-values}
 use Rattle.pair_ops.proofs.ReachLemmas.{few_steps}

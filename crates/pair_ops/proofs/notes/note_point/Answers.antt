@@ -9,7 +9,7 @@ use Rattle.point_sets.specs.Changes.{values_of}
 use Rattle.point_sets.specs.DataSets.{HasKey, key_of, rest_of}
 use Rattle.point_sets.specs.declared.point.Point.{Point}
 use Rattle.held_index.specs.Drafts.{SetDraft}
-use Rattle.pair_meaning.specs.Pairs.{result_key}
+use Rattle.operator_meaning.specs.pairs.Pairs.{result_key}
 use Rattle.pair_ops.specs.Noted.{noted_met}
 use Rattle.pair_ops.proofs.Folds.{met-values}
 use Rattle.pair_ops.proofs.notes.note_point.Goals as goal

@@ -1,6 +1,6 @@
 use Rattle.std.proofs.Common.{[], ap, ◌∙◌, ◌++◌}
 use Rattle.std.specs.FinMap.{empty}
-use Rattle.transform_nodes.specs.Nodes.{published}
+use Rattle.round_journal.specs.Nodes.{published}
 use Rattle.round_journal.specs.Releases.{and_page}
 use Rattle.round_core.proofs.StepLemmas.{pages_step}
 use Rattle.round_core.proofs.moves.first_pages.Goals as goal

@@ -1,6 +1,6 @@
 use Rattle.std.proofs.Common.{◌≡◌, take}
 use Rattle.std.specs.FinMap.{empty}
-use Rattle.transform_nodes.specs.Nodes.{published}
+use Rattle.round_journal.specs.Nodes.{published}
 use Rattle.round_core.specs.Slots.{pages_by}
 use Rattle.round_core.proofs.moves.first_pages.Given as goal
 

@@ -1,5 +1,5 @@
 use Rattle.std.proofs.Common.{◌∙◌, ap, subst, refl}
-use Rattle.checked_trees.specs.Scripts.{Script, IsChecked}
+use Rattle.data_set_trees.specs.checked.Scripts.{Script, IsChecked}
 use Rattle.round_core.specs.declared.limits.Full.{Full}
 use Rattle.round_core.specs.Seen.{Seen}
 use Rattle.round_runs.specs.declared.round.RoundEnd.{RoundEnd}

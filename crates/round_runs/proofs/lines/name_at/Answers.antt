@@ -1,6 +1,6 @@
 use Rattle.std.proofs.Common.{◌≤◌, List, length, subst}
 use Rattle.std.proofs.lemmas.Option.{slice_get_past}
-use Rattle.checked_trees.specs.declared.script.CheckedStatement.{CheckedStatement}
+use Rattle.data_set_trees.specs.declared.checked.script.CheckedStatement.{CheckedStatement}
 use Rattle.round_runs.proofs.LineLemmas.{named_none}
 use Rattle.round_runs.proofs.lines.name_at.Goals as goal
 

@@ -1,8 +1,8 @@
 use Rattle.std.proofs.Common.{◌≡◌, ◌∙◌, ◌+◌, ℕ, Result, IfOk, ap, subst, arith}
-use Rattle.transform_nodes.specs.declared.work.Work.{Work}
-use Rattle.round_journal.proofs.StandLemmas.{DoneStands-from_work}
+use Rattle.round_core.specs.work.Work.{Work}
+use Rattle.round_core.proofs.StandLemmas.{DoneStands-from_work}
 use Rattle.round_core.specs.declared.stops.ClaimStop.{ClaimStop}
-use Rattle.round_journal.specs.Journals.{number}
+use Rattle.round_core.specs.Journals.{number}
 use Rattle.round_core.specs.Answers.{Claims, GivesSo, given_what}
 use Rattle.round_core.specs.Seen.{Seen, state_in}
 use Rattle.round_runs.specs.Rounds.{IsBackOf}

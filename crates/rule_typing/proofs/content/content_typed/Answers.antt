@@ -1,11 +1,11 @@
 use Rattle.std.proofs.Common.{◌≡◌, Option, ap, sym, ◌∙◌}
 use Rattle.std.specs.Prelude.{flat_map, unwrap_or}
 use Rattle.vtl_syntax.specs.declared.ruleset.HierarchyRule.{HierarchyRule}
-use Rattle.typing_rules.specs.declared.stop.Fault.{Fault}
-use Rattle.clause_trees.specs.Frames.{frame_of}
-use Rattle.rule_trees.specs.declared.rules.HierarchyContent.{HierarchyContent}
-use Rattle.rule_trees.specs.Hierarchies.{condition_faults, content_of, demands_of, rules_typed, variables_of}
-use Rattle.rule_trees.specs.Rules.{are_known, condition_typed, fault_in, first_fault, scope_of_rules, unmet}
+use Rattle.scalar_trees.specs.declared.typing.stop.Fault.{Fault}
+use Rattle.data_set_trees.specs.clauses.Frames.{frame_of}
+use Rattle.data_set_trees.specs.declared.rules.rules.HierarchyContent.{HierarchyContent}
+use Rattle.data_set_trees.specs.rules.Hierarchies.{condition_faults, content_of, demands_of, rules_typed, variables_of}
+use Rattle.data_set_trees.specs.rules.Rules.{are_known, condition_typed, fault_in, first_fault, scope_of_rules, unmet}
 use Rattle.rule_typing.specs.Content.{fault_of}
 use Rattle.rule_typing.specs.Faults.{earlier}
 use Rattle.rule_typing.specs.Named.{known_on, scope_on}

@@ -2,13 +2,13 @@ use Rattle.std.proofs.Common.{◌≡◌, [], ◌∷◌, ap, sym, ◌∙◌}
 use Rattle.std.specs.Prelude.{flat_map, unwrap_or}
 use Rattle.vtl_syntax.specs.declared.words.RowsOutput.{RowsOutput}
 use Rattle.vtl_syntax.specs.declared.words.RowsOutput.TheVariants.{Invalid}
-use Rattle.typing_rules.specs.declared.stop.Fault.TheVariants.{NameTwice, TooManyComponents}
-use Rattle.clause_trees.specs.Frames.{frame_of}
-use Rattle.aggregate_trees.specs.Aggregates.{has_room, names_differ}
-use Rattle.rule_trees.specs.declared.rules.CheckedDatapoint.{CheckedDatapoint}
-use Rattle.rule_trees.specs.Datapoints.{rule_faults, rules_typed, unordered}
-use Rattle.rule_trees.specs.Rules.{are_known, first_fault, scope_of_rules, unmet}
-use Rattle.rule_trees.proofs.Given.{datapoints_give}
+use Rattle.scalar_trees.specs.declared.typing.stop.Fault.TheVariants.{NameTwice, TooManyComponents}
+use Rattle.data_set_trees.specs.clauses.Frames.{frame_of}
+use Rattle.data_set_trees.specs.aggregates.Aggregates.{has_room, names_differ}
+use Rattle.data_set_trees.specs.declared.rules.rules.CheckedDatapoint.{CheckedDatapoint}
+use Rattle.data_set_trees.specs.rules.Datapoints.{rule_faults, rules_typed, unordered}
+use Rattle.data_set_trees.specs.rules.Rules.{are_known, first_fault, scope_of_rules, unmet}
+use Rattle.data_set_trees.proofs.rules.Given.{datapoints_give}
 use Rattle.rule_typing.specs.Faults.{earlier}
 use Rattle.rule_typing.specs.Named.{known_on, scope_on}
 use Rattle.rule_typing.proofs.Uses.{of_rows, of_rules, point_fault_told, point_told, point_unknown_told}

@@ -1,6 +1,6 @@
 use Rattle.std.proofs.Common.{Bool, false, ◌∙◌}
-use Rattle.typing_rules.specs.declared.stop.Fault.{Fault}
-use Rattle.typing_rules.specs.declared.stop.Fault.TheVariants.{UnknownComponent}
+use Rattle.scalar_trees.specs.declared.typing.stop.Fault.{Fault}
+use Rattle.scalar_trees.specs.declared.typing.stop.Fault.TheVariants.{UnknownComponent}
 use Rattle.rule_typing.proofs.FirstFaults.{met_more, unmet_more}
 use Rattle.rule_typing.proofs.faults.first_unmet.Goals as goal
 use Rattle.rule_typing.proofs.faults.first_unmet.Goals.{then-not-holds, else-not-holds}

@@ -1,5 +1,5 @@
 use Rattle.std.proofs.Common.{◌≡◌, take}
-use Rattle.rule_trees.specs.Rules.{first_fault, unmet}
+use Rattle.data_set_trees.specs.rules.Rules.{first_fault, unmet}
 use Rattle.rule_typing.proofs.faults.first_unmet.Given as goal
 
 abbrev pub invariant-loop-holds : goal.invariant-loop-holds

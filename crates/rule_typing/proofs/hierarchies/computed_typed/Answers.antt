@@ -2,10 +2,10 @@ use Rattle.std.proofs.Common.{refl, [], None, Ok, sym, ◌∙◌}
 use Rattle.std.specs.Prelude.{unwrap_or}
 use Rattle.vtl_syntax.specs.declared.words.HierarchyInput.TheVariants as input
 use Rattle.vtl_syntax.specs.declared.words.HierarchyOutput.TheVariants as output
-use Rattle.rule_trees.specs.declared.rules.CheckedHierarchy.TheVariants.{Computed}
-use Rattle.rule_trees.specs.declared.rules.CheckedHierarchy.{CheckedHierarchy}
-use Rattle.rule_trees.specs.declared.rules.HierarchyContent.{HierarchyContent}
-use Rattle.rule_trees.proofs.Given.{hierarchies_give}
+use Rattle.data_set_trees.specs.declared.rules.rules.CheckedHierarchy.TheVariants.{Computed}
+use Rattle.data_set_trees.specs.declared.rules.rules.CheckedHierarchy.{CheckedHierarchy}
+use Rattle.data_set_trees.specs.declared.rules.rules.HierarchyContent.{HierarchyContent}
+use Rattle.data_set_trees.proofs.rules.Given.{hierarchies_give}
 use Rattle.rule_typing.proofs.Uses.{use_refused, use_told}
 use Rattle.rule_typing.proofs.hierarchies.computed_typed.Goals as goal
 

@@ -3,12 +3,12 @@ use Rattle.std.specs.Prelude.{unwrap_or}
 use Rattle.vtl_syntax.specs.declared.words.CheckInput.TheVariants as input
 use Rattle.vtl_syntax.specs.declared.words.RowsOutput.{RowsOutput}
 use Rattle.vtl_syntax.specs.declared.words.RowsOutput.TheVariants.{Invalid}
-use Rattle.rule_trees.specs.declared.rules.CheckedHierarchy.TheVariants.{Checked}
-use Rattle.rule_trees.specs.Hierarchies.{rows_demanded}
-use Rattle.rule_trees.specs.Rules.{first_fault, unmet}
-use Rattle.rule_trees.specs.declared.rules.CheckedHierarchy.{CheckedHierarchy}
-use Rattle.rule_trees.specs.declared.rules.HierarchyContent.{HierarchyContent}
-use Rattle.rule_trees.proofs.Given.{hierarchies_give}
+use Rattle.data_set_trees.specs.declared.rules.rules.CheckedHierarchy.TheVariants.{Checked}
+use Rattle.data_set_trees.specs.rules.Hierarchies.{rows_demanded}
+use Rattle.data_set_trees.specs.rules.Rules.{first_fault, unmet}
+use Rattle.data_set_trees.specs.declared.rules.rules.CheckedHierarchy.{CheckedHierarchy}
+use Rattle.data_set_trees.specs.declared.rules.rules.HierarchyContent.{HierarchyContent}
+use Rattle.data_set_trees.proofs.rules.Given.{hierarchies_give}
 use Rattle.rule_typing.proofs.Uses.{use_refused, use_told}
 use Rattle.rule_typing.proofs.hierarchies.rows_typed.Goals as goal
 

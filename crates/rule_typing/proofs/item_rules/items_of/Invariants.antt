@@ -1,7 +1,7 @@
 use Rattle.std.proofs.Common.{◌≡◌, ◌∷◌, map, take}
 use Rattle.std.specs.Prelude.{unwrap_or}
 use Rattle.vtl_syntax.specs.declared.words.Sign.TheVariants.{Plus}
-use Rattle.rule_trees.specs.Hierarchies.{signed}
+use Rattle.data_set_trees.specs.rules.Hierarchies.{signed}
 use Rattle.rule_typing.proofs.item_rules.items_of.Given as goal
 
 abbrev pub invariant-loop-named : goal.invariant-loop-named

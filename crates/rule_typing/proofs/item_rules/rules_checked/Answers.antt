@@ -1,9 +1,9 @@
 use Rattle.std.proofs.Common.{List, ap, sym, ◌∙◌}
 use Rattle.std.specs.Result.{result_err, result_ok}
 use Rattle.vtl_syntax.specs.declared.ruleset.HierarchyRule.{HierarchyRule}
-use Rattle.typing_rules.specs.declared.stop.Fault.{Fault}
-use Rattle.rule_trees.specs.Hierarchies.{rule_typed}
-use Rattle.rule_trees.specs.Rules.{condition_typed, fault_in}
+use Rattle.scalar_trees.specs.declared.typing.stop.Fault.{Fault}
+use Rattle.data_set_trees.specs.rules.Hierarchies.{rule_typed}
+use Rattle.data_set_trees.specs.rules.Rules.{condition_typed, fault_in}
 use Rattle.rule_typing.proofs.Walked.{all_told, finds, goes_on}
 use Rattle.rule_typing.proofs.item_rules.rules_checked.Goals as goal
 use Rattle.rule_typing.proofs.item_rules.rules_checked.Goals.{in-Ok+in_ok-push-in-Ok, in-Err}

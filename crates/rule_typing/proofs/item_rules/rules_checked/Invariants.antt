@@ -1,5 +1,5 @@
-use Rattle.rule_trees.specs.Hierarchies.{rule_typed}
-use Rattle.rule_trees.specs.Rules.{condition_typed, fault_in}
+use Rattle.data_set_trees.specs.rules.Hierarchies.{rule_typed}
+use Rattle.data_set_trees.specs.rules.Rules.{condition_typed, fault_in}
 use Rattle.rule_typing.proofs.Walked.{Walked}
 use Rattle.rule_typing.proofs.item_rules.rules_checked.Given as goal
 

@@ -1,6 +1,6 @@
 use Rattle.std.proofs.Common.{◌++◌, drop, ◌+◌, List, ap, ◌∙◌, sym}
 use Rattle.std.specs.Prelude.{filter_map}
-use Rattle.typing_rules.specs.declared.scope.ScopeName.{ScopeName}
+use Rattle.scalar_trees.specs.declared.typing.scope.ScopeName.{ScopeName}
 use Rattle.clause_typing.proofs.Walks.{kept, passed}
 use Rattle.rule_typing.specs.Named.{variable_on}
 use Rattle.rule_typing.proofs.names.scope_names.Goals as goal

@@ -1,6 +1,6 @@
 use Rattle.std.proofs.Common.{ap, ◌∙◌}
 use Rattle.std.specs.Result.{result_err}
-use Rattle.rule_trees.specs.Rules.{boolean_typed, condition_typed}
+use Rattle.data_set_trees.specs.rules.Rules.{boolean_typed, condition_typed}
 use Rattle.rule_typing.proofs.PointRules.{rule_told}
 use Rattle.rule_typing.proofs.point_rules.rule_checked.Goals as goal
 

@@ -1,8 +1,8 @@
 use Rattle.std.proofs.Common.{List, ap, sym, ◌∙◌}
 use Rattle.std.specs.Result.{result_err, result_ok}
 use Rattle.vtl_syntax.specs.declared.ruleset.DatapointRule.{DatapointRule}
-use Rattle.typing_rules.specs.declared.stop.Fault.{Fault}
-use Rattle.rule_trees.specs.Datapoints.{rule_faults, rule_typed}
+use Rattle.scalar_trees.specs.declared.typing.stop.Fault.{Fault}
+use Rattle.data_set_trees.specs.rules.Datapoints.{rule_faults, rule_typed}
 use Rattle.rule_typing.proofs.Walked.{finds, goes_on}
 use Rattle.rule_typing.proofs.point_rules.rules_checked.Goals as goal
 use Rattle.rule_typing.proofs.point_rules.rules_checked.Goals.{in-Ok+in_ok-push-in-Ok, in-Err}

@@ -1,4 +1,4 @@
-use Rattle.rule_trees.specs.Datapoints.{rule_faults, rule_typed}
+use Rattle.data_set_trees.specs.rules.Datapoints.{rule_faults, rule_typed}
 use Rattle.rule_typing.proofs.Walked.{Walked}
 use Rattle.rule_typing.proofs.point_rules.rules_checked.Given as goal
 

@@ -2,7 +2,7 @@ use Rattle.std.proofs.Common.{◌≡◌, List, ℕ, subst, ◌∙◌}
 use Rattle.std.specs.Prelude.{IfOk}
 use Rattle.std.proofs.lemmas.Str.{chars-IsAscii}
 use Rattle.vtl_values.proofs.CharsOfTexts.{IsAscii-from_test}
-use Rattle.clause_trees.specs.After.{made}
+use Rattle.data_set_trees.specs.clauses.After.{made}
 use Rattle.rule_typing.proofs.rows.component_named.Goals as goal
 
 pub returns : goal.returns

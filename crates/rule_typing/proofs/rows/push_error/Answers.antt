@@ -4,7 +4,7 @@ use Rattle.std.proofs.lemmas.List.{append_assoc}
 use Rattle.vtl_values.specs.declared.kind.Kind.TheVariants.{Integer}
 use Rattle.vtl_values.specs.declared.kind.Role.TheVariants.{Measure}
 use Rattle.vtl_values.specs.declared.structure.Component.{Component}
-use Rattle.clause_trees.specs.After.{made}
+use Rattle.data_set_trees.specs.clauses.After.{made}
 use Rattle.rule_typing.proofs.rows.push_error.Goals as goal
 
 pub returns : goal.returns

@@ -3,7 +3,7 @@ use Rattle.vtl_syntax.specs.declared.script.Statement.{Statement}
 use Rattle.shortest_cycles.specs.Paths.{Graph}
 use Rattle.script_graph.specs.Faults.{graph_of}
 use Rattle.script_graph.specs.Orders.{IsOrder}
-use Rattle.checked_trees.specs.Scripts.{IsTypedScript}
+use Rattle.data_set_trees.specs.checked.Scripts.{IsTypedScript}
 use Rattle.literal_ranges.specs.Ranges.{literals_in_range}
 use Rattle.script_typing.specs.Scripts.{states_after, first_refusal, with_sets}
 use Rattle.script_typing.proofs.Results.{made, owed}

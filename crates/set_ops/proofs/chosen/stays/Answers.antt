@@ -1,6 +1,6 @@
 use Rattle.std.proofs.Common.{sym, ap, ◌∙◌, not, map}
 use Rattle.std.specs.Option.{is_some}
-use Rattle.set_meaning.specs.Sets.{stays}
+use Rattle.operator_meaning.specs.sets.Sets.{stays}
 use Rattle.data_set_trees.specs.declared.tree.SetOperation.{SetOperation}
 use Rattle.set_ops.proofs.Taken.{all-stay, first-stays}
 use Rattle.set_ops.proofs.chosen.stays.Goals as goal

@@ -1,6 +1,6 @@
 use Rattle.std.proofs.Common.{◌≡◌, Bool, [], ◌∷◌}
-use Rattle.typing_rules.specs.declared.stop.Fault.TheVariants.{WrongType, WrongStructure}
-use Rattle.clause_trees.specs.Clauses.{demands}
+use Rattle.scalar_trees.specs.declared.typing.stop.Fault.TheVariants.{WrongType, WrongStructure}
+use Rattle.data_set_trees.specs.clauses.Clauses.{demands}
 use Rattle.data_set_parts.proofs.Follows.{ok_same, err_same}
 use Rattle.set_typing.specs.Conditionals.{demanded_of}
 use Rattle.set_typing.proofs.agreement.demanded_of.Goals as goal

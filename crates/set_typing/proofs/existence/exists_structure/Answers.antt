@@ -4,7 +4,7 @@ use Rattle.vtl_values.specs.declared.kind.Kind.TheVariants.{Truth}
 use Rattle.vtl_values.specs.declared.kind.Role.TheVariants.{Identifier, Measure, Viral}
 use Rattle.vtl_values.specs.declared.structure.Component.{Component}
 use Rattle.vtl_values.specs.Structures.{IsStructure}
-use Rattle.clause_trees.specs.After.{made}
+use Rattle.data_set_trees.specs.clauses.After.{made}
 use Rattle.data_set_trees.specs.Components.{identifiers, virals, names_differ, BOOL_VAR}
 use Rattle.data_set_trees.specs.Exists.{exists_structure}
 use Rattle.data_set_parts.specs.Joins.{IsOf}

@@ -8,7 +8,7 @@ use Rattle.vtl_syntax.specs.declared.expr.Item.{Item}
 use Rattle.vtl_syntax.specs.declared.expr.JoinOperand.{JoinOperand}
 use Rattle.vtl_syntax.specs.declared.expr.SubItem.{SubItem}
 use Rattle.vtl_syntax.specs.declared.expr.SubstrRange.{SubstrRange}
-use Rattle.clause_trees.specs.Clauses.{Answer, sub_typed}
+use Rattle.data_set_trees.specs.clauses.Clauses.{Answer, sub_typed}
 use Rattle.expression_rules.specs.OnClauses.{clause_step, clause_checked}
 use Rattle.statement_typing.proofs.Steps.{answers_same, answers_as}
 use Rattle.statement_typing.proofs.clauses.clause_checked.Goals as goal

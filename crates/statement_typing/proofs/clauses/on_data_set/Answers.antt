@@ -1,6 +1,6 @@
 use Rattle.std.proofs.Common.{◌≡◌, sym, ap, subst, ◌∙◌}
 use Rattle.vtl_values.specs.Structures.{IsStructure}
-use Rattle.clause_trees.specs.Frames.{frame_of}
+use Rattle.data_set_trees.specs.clauses.Frames.{frame_of}
 use Rattle.data_set_trees.specs.declared.operand.DataSet.{DataSet}
 use Rattle.statement_typing.proofs.Leaves.{leaves_structure}
 use Rattle.statement_typing.proofs.clauses.on_data_set.Goals as goal

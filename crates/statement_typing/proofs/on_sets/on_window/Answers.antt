@@ -1,10 +1,10 @@
 use Rattle.std.proofs.Common.{◌≡◌, List, Result, Ok, sym, ap, ◌∙◌}
 use Rattle.vtl_values.specs.declared.structure.Component.{Component}
-use Rattle.typing_rules.specs.declared.stop.Refusal.{Refusal}
-use Rattle.typing_rules.specs.Steps.{Refuses}
+use Rattle.scalar_trees.specs.declared.typing.stop.Refusal.{Refusal}
+use Rattle.scalar_trees.specs.typing.Steps.{Refuses}
 use Rattle.operator_typing.proofs.Steps.{stops_same}
-use Rattle.window_trees.specs.declared.analytic.CheckedWindow.{CheckedWindow}
-use Rattle.window_trees.specs.Windows.{window_checked}
+use Rattle.data_set_trees.specs.declared.windows.analytic.CheckedWindow.{CheckedWindow}
+use Rattle.data_set_trees.specs.windows.Windows.{window_checked}
 use Rattle.data_set_trees.specs.declared.operand.DataSet.{DataSet}
 use Rattle.data_set_trees.specs.declared.operand.Operand.TheVariants as operand
 use Rattle.data_set_trees.specs.declared.tree.DataSetOperator.TheVariants as operator

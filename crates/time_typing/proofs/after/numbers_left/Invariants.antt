@@ -1,6 +1,6 @@
 use Rattle.std.proofs.Common.{◌≡◌, ◌++◌, not, drop}
 use Rattle.vtl_values.specs.declared.kind.Role.TheVariants.{Attribute}
-use Rattle.clause_trees.specs.Frames.{has_role, numbers_from}
+use Rattle.data_set_trees.specs.clauses.Frames.{has_role, numbers_from}
 use Rattle.time_typing.proofs.after.numbers_left.Given as goal
 
 abbrev pub invariant-loop-i : goal.invariant-loop-i

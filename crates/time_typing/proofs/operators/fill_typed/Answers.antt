@@ -1,5 +1,5 @@
-use Rattle.time_trees.specs.declared.time.CheckedTime.TheVariants as time
-use Rattle.time_trees.proofs.Given.{gives_structures}
+use Rattle.data_set_trees.specs.declared.times.time.CheckedTime.TheVariants as time
+use Rattle.data_set_trees.proofs.times.Given.{gives_structures}
 use Rattle.time_typing.proofs.Checked.{fill_is}
 use Rattle.time_typing.proofs.operators.fill_typed.Goals as goal
 

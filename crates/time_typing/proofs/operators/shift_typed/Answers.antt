@@ -1,8 +1,8 @@
 use Rattle.std.proofs.Common.{Bool, [], ◌∷◌, ap, sym, ◌∙◌}
-use Rattle.typing_rules.specs.declared.stop.Fault.TheVariants.{BadConstant}
-use Rattle.clause_trees.specs.Clauses.{demands}
-use Rattle.time_trees.specs.declared.time.CheckedTime.TheVariants as time
-use Rattle.time_trees.proofs.Given.{gives_structures}
+use Rattle.scalar_trees.specs.declared.typing.stop.Fault.TheVariants.{BadConstant}
+use Rattle.data_set_trees.specs.clauses.Clauses.{demands}
+use Rattle.data_set_trees.specs.declared.times.time.CheckedTime.TheVariants as time
+use Rattle.data_set_trees.proofs.times.Given.{gives_structures}
 use Rattle.time_typing.proofs.Checked.{shift_is}
 use Rattle.time_typing.proofs.operators.shift_typed.Goals as goal
 

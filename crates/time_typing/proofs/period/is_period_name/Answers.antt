@@ -1,5 +1,5 @@
 use Rattle.std.proofs.Common.{refl, ◌∙◌}
-use Rattle.time_trees.specs.Times.{TIME_PERIOD}
+use Rattle.data_set_trees.specs.times.Times.{TIME_PERIOD}
 use Rattle.time_typing.proofs.Words.{word_told}
 use Rattle.time_typing.proofs.period.is_period_name.Goals as goal
 

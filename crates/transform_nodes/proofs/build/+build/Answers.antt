@@ -5,9 +5,9 @@ use Rattle.data_set_trees.proofs.tree.DataSetTree.TheLaws.{the_size}
 use Rattle.data_set_trees.specs.declared.tree.DataSetTree.TheViews.{the_lemmas, size_is-DataSetNode}
 use Rattle.data_set_trees.specs.declared.tree.Source.{Source}
 use Rattle.data_set_trees.specs.declared.tree.DataSetTree.{DataSetTree}
-use Rattle.checked_trees.specs.Expressions.{Expression, Named, expression_of, expression_of_node}
+use Rattle.data_set_trees.specs.checked.Expressions.{Expression, Named, expression_of, expression_of_node}
 use Rattle.vtl_values.specs.declared.structure.Component.{Component}
-use Rattle.checked_trees.specs.Operators.{an_operator, Operator, IsTyped}
+use Rattle.data_set_trees.specs.checked.Operators.{an_operator, Operator, IsTyped}
 use Rattle.held_index.specs.declared.want.Want.{Want}
 use Rattle.transform_nodes.specs.Rules.{operator_of, wanted_of}
 use Rattle.transform_nodes.proofs.WantLemmas.{rule-wanted}

@@ -1,8 +1,8 @@
 use Rattle.std.proofs.Common.{◌++◌, map, take, List, sym, ◌∙◌, ap}
 use Rattle.std.proofs.lemmas.List.{append_assoc}
 use Rattle.data_set_trees.specs.declared.tree.Source.{Source}
-use Rattle.checked_trees.specs.Expressions.{expression_of, expressions}
-use Rattle.checked_trees.specs.Scripts.{names_in, names_in_all}
+use Rattle.data_set_trees.specs.checked.Expressions.{expression_of, expressions}
+use Rattle.data_set_trees.specs.checked.Scripts.{names_in, names_in_all}
 use Rattle.transform_nodes.proofs.BuildLemmas.{names_in_all-more}
 use Rattle.transform_nodes.proofs.build.+names.Goals as goal
 

@@ -1,6 +1,6 @@
 use Rattle.std.proofs.Common.{◌≡◌, ◌++◌, map, take}
-use Rattle.checked_trees.specs.Expressions.{expression_of, expressions}
-use Rattle.checked_trees.specs.Scripts.{names_in_all}
+use Rattle.data_set_trees.specs.checked.Expressions.{expression_of, expressions}
+use Rattle.data_set_trees.specs.checked.Scripts.{names_in_all}
 use Rattle.transform_nodes.proofs.build.+names.Given as goal
 
 abbrev pub invariant-push_all_names-loop-tree : goal.invariant-push_all_names-loop-tree

@@ -1,8 +1,8 @@
 use Rattle.std.proofs.Common.{◌∙◌, ◌++◌, sym, ap, List}
 use Rattle.data_set_trees.specs.declared.tree.Source.{Source}
 use Rattle.data_set_trees.specs.declared.tree.Source.TheVariants.{Result as ResultOf}
-use Rattle.checked_trees.specs.Expressions.{expression_of}
-use Rattle.checked_trees.specs.Scripts.{is_same, names_in}
+use Rattle.data_set_trees.specs.checked.Expressions.{expression_of}
+use Rattle.data_set_trees.specs.checked.Scripts.{is_same, names_in}
 use Rattle.transform_nodes.specs.Building.{is_among}
 use Rattle.transform_nodes.proofs.BuildLemmas.{any_by_all}
 use Rattle.transform_nodes.proofs.build.names_it.Goals as goal

@@ -1,5 +1,5 @@
 use Rattle.std.proofs.Common.{◌≡◌, take}
-use Rattle.checked_trees.specs.Scripts.{once_each}
+use Rattle.data_set_trees.specs.checked.Scripts.{once_each}
 use Rattle.transform_nodes.proofs.build.once_each.Given as goal
 
 abbrev pub invariant-loop-name : goal.invariant-loop-name

@@ -1,6 +1,6 @@
 use Rattle.std.proofs.Common.{◌≡◌, ◌≤◌, take}
 use Rattle.std.specs.Prelude.{count_by}
-use Rattle.checked_trees.specs.Scripts.{names_result}
+use Rattle.data_set_trees.specs.checked.Scripts.{names_result}
 use Rattle.transform_nodes.proofs.build.uses_of.Given as goal
 
 abbrev pub invariant-loop-named : goal.invariant-loop-named

@@ -36,6 +36,9 @@ decreases-optional l = 8 * if_some size-Expr l.tree.now + 1
 abbrev pub decreases-with_optional : goal.decreases-with_optional
 decreases-with_optional l = 8 * max (size-Expr l.tree.now) (if_some size-Expr l.other.now) + 2
 
+abbrev pub decreases-check : goal.decreases-check
+decreases-check l = 8 * max (size-Expr l.operand.now) (if_some size-Expr l.imbalance.now) + 3
+
 abbrev pub decreases-replace : goal.decreases-replace
 decreases-replace l = 8 * max (max (size-Expr l.operand.now) (size-Expr l.pattern.now)) (if_some size-Expr l.by.now) + 3
 

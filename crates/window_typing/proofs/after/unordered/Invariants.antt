@@ -1,8 +1,8 @@
 use Rattle.std.proofs.Common.{◌≡◌, ◌++◌, map, take}
 use Rattle.vtl_values.specs.declared.kind.Role.TheVariants.{Identifier, Viral}
-use Rattle.clause_trees.specs.Frames.{numbers_of}
-use Rattle.aggregate_trees.specs.Results.{with_numbers}
-use Rattle.window_trees.specs.Results.{made_by}
+use Rattle.data_set_trees.specs.clauses.Frames.{numbers_of}
+use Rattle.data_set_trees.specs.aggregates.Results.{with_numbers}
+use Rattle.data_set_trees.specs.windows.Results.{made_by}
 use Rattle.window_typing.proofs.after.unordered.Given as goal
 
 abbrev pub invariant-loop-item : goal.invariant-loop-item

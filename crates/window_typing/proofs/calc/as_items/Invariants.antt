@@ -1,5 +1,5 @@
 use Rattle.std.proofs.Common.{◌≡◌, map, take}
-use Rattle.window_trees.specs.Results.{as_item}
+use Rattle.data_set_trees.specs.windows.Results.{as_item}
 use Rattle.window_typing.proofs.calc.as_items.Given as goal
 
 abbrev pub invariant-loop-item : goal.invariant-loop-item

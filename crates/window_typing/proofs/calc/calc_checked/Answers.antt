@@ -1,14 +1,14 @@
 use Rattle.std.proofs.Common.{◌≡◌, List, map, Ok, ap, sym, subst, ◌∙◌}
 use Rattle.std.specs.List.{All}
 use Rattle.vtl_values.specs.Structures.{IsStructure}
-use Rattle.clause_trees.specs.declared.clause.CheckedItem.{CheckedItem}
-use Rattle.clause_trees.specs.declared.frame.Frame.{Frame}
-use Rattle.clause_trees.specs.Clauses.{calc_typed}
+use Rattle.data_set_trees.specs.declared.clauses.clause.CheckedItem.{CheckedItem}
+use Rattle.data_set_trees.specs.declared.clauses.frame.Frame.{Frame}
+use Rattle.data_set_trees.specs.clauses.Clauses.{calc_typed}
 use Rattle.operator_typing.proofs.Steps.{goes_on}
-use Rattle.window_trees.specs.declared.analytic.CheckedWindow.TheVariants as window
-use Rattle.window_trees.specs.Results.{after, as_item}
-use Rattle.window_trees.specs.Windows.{IsItemOf, calc_checked}
-use Rattle.window_trees.proofs.Made.{calc_gives_structures}
+use Rattle.data_set_trees.specs.declared.windows.analytic.CheckedWindow.TheVariants as window
+use Rattle.data_set_trees.specs.windows.Results.{after, as_item}
+use Rattle.data_set_trees.specs.windows.Windows.{IsItemOf, calc_checked}
+use Rattle.data_set_trees.proofs.windows.Made.{calc_gives_structures}
 use Rattle.window_typing.proofs.calc.calc_checked.Goals as goal
 
 pub returns-clause-structure : goal.returns-clause-structure

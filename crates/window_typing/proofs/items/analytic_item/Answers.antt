@@ -1,8 +1,8 @@
 use Rattle.std.proofs.Common.{◌≡◌}
 use Rattle.std.proofs.lemmas.Result.{IfOk-weaker}
-use Rattle.window_trees.specs.declared.analytic.AnalyticItem.{AnalyticItem}
-use Rattle.window_trees.specs.Windows.{IsItemOf, analytic_item}
-use Rattle.window_trees.specs.declared.analytic.AnalyticValue.TheVariants as value
+use Rattle.data_set_trees.specs.declared.windows.analytic.AnalyticItem.{AnalyticItem}
+use Rattle.data_set_trees.specs.windows.Windows.{IsItemOf, analytic_item}
+use Rattle.data_set_trees.specs.declared.windows.analytic.AnalyticValue.TheVariants as value
 use Rattle.window_typing.proofs.items.analytic_item.Goals as goal
 
 pub returns-clause-made : goal.returns-clause-made

@@ -1,11 +1,11 @@
 use Rattle.std.proofs.Common.{◌≡◌, List, Bool, [], ◌∷◌, ap, ◌∙◌}
-use Rattle.typing_rules.specs.declared.stop.Fault.{Fault}
-use Rattle.typing_rules.specs.declared.stop.Fault.TheVariants.{UnknownComponent, WrongType, WrongStructure, WrongRole, NameTwice, TooManyComponents, BadConstant}
-use Rattle.clause_trees.specs.Clauses.{demands}
-use Rattle.aggregate_trees.specs.Aggregates.{has_room, names_differ}
-use Rattle.window_trees.specs.Parts.{knows, may_part}
-use Rattle.window_trees.specs.Results.{unordered}
-use Rattle.window_trees.specs.Windows.{takes_all}
+use Rattle.scalar_trees.specs.declared.typing.stop.Fault.{Fault}
+use Rattle.scalar_trees.specs.declared.typing.stop.Fault.TheVariants.{UnknownComponent, WrongType, WrongStructure, WrongRole, NameTwice, TooManyComponents, BadConstant}
+use Rattle.data_set_trees.specs.clauses.Clauses.{demands}
+use Rattle.data_set_trees.specs.aggregates.Aggregates.{has_room, names_differ}
+use Rattle.data_set_trees.specs.windows.Parts.{knows, may_part}
+use Rattle.data_set_trees.specs.windows.Results.{unordered}
+use Rattle.data_set_trees.specs.windows.Windows.{takes_all}
 use Rattle.window_typing.proofs.Same.{err_same}
 use Rattle.window_typing.proofs.measures.fits.Goals as goal
 

@@ -1,12 +1,12 @@
 use Rattle.std.proofs.Common.{◌≡◌, false, ap, sym, ◌∙◌}
 use Rattle.operator_typing.proofs.Steps.{stops_same}
 use Rattle.scalar_trees.specs.Kinds.{ANY}
-use Rattle.clause_trees.specs.declared.frame.Frame.{Frame}
-use Rattle.clause_trees.specs.Frames.{frame_of}
-use Rattle.window_trees.specs.declared.analytic.CheckedWindow.TheVariants as window
-use Rattle.window_trees.specs.Parts.{is_offset}
-use Rattle.window_trees.specs.Windows.{may_state}
-use Rattle.window_trees.proofs.Made.{measures_give_structures}
+use Rattle.data_set_trees.specs.declared.clauses.frame.Frame.{Frame}
+use Rattle.data_set_trees.specs.clauses.Frames.{frame_of}
+use Rattle.data_set_trees.specs.declared.windows.analytic.CheckedWindow.TheVariants as window
+use Rattle.data_set_trees.specs.windows.Parts.{is_offset}
+use Rattle.data_set_trees.specs.windows.Windows.{may_state}
+use Rattle.data_set_trees.proofs.windows.Made.{measures_give_structures}
 use Rattle.window_typing.specs.declared.measures.OnEach.TheVariants.{Offset}
 use Rattle.window_typing.specs.Each.{fits, on_measures}
 use Rattle.window_typing.proofs.Measured.{measures_are, measures_refused}

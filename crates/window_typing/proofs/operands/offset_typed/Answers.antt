@@ -1,9 +1,9 @@
 use Rattle.std.proofs.Common.{◌≡◌, ℕ, false, ◌∙◌}
 use Rattle.vtl_values.specs.declared.kind.Kind.{Kind}
 use Rattle.scalar_trees.specs.Kinds.{ANY}
-use Rattle.window_trees.specs.declared.analytic.Analytic.TheVariants as analytic
-use Rattle.window_trees.specs.Parts.{is_offset}
-use Rattle.window_trees.specs.Windows.{Answer, finished, may_state, offset_typed}
+use Rattle.data_set_trees.specs.declared.windows.analytic.Analytic.TheVariants as analytic
+use Rattle.data_set_trees.specs.windows.Parts.{is_offset}
+use Rattle.data_set_trees.specs.windows.Windows.{Answer, finished, may_state, offset_typed}
 use Rattle.window_typing.proofs.Components.{goes_on_with, stops_without}
 use Rattle.window_typing.proofs.Same.{err_same, ok_same}
 use Rattle.window_typing.proofs.operands.offset_typed.Goals as goal

@@ -1,8 +1,8 @@
 use Rattle.std.proofs.Common.{◌≡◌, ℕ, Bool, ap, ◌∙◌}
 use Rattle.vtl_values.specs.declared.kind.Kind.{Kind}
-use Rattle.window_trees.specs.Functions.{takes_window, window_gives, window_takes}
-use Rattle.window_trees.specs.Parts.{points_within}
-use Rattle.window_trees.specs.Windows.{Answer, finished, may_state, window_of, window_typed}
+use Rattle.data_set_trees.specs.windows.Functions.{takes_window, window_gives, window_takes}
+use Rattle.data_set_trees.specs.windows.Parts.{points_within}
+use Rattle.data_set_trees.specs.windows.Windows.{Answer, finished, may_state, window_of, window_typed}
 use Rattle.window_typing.proofs.Components.{goes_on_with, stops_without}
 use Rattle.window_typing.proofs.Same.{err_same, ok_same}
 use Rattle.window_typing.proofs.operands.window_typed.Goals as goal

@@ -3,8 +3,8 @@ use Rattle.std.specs.Prelude.{is_some}
 use Rattle.std.specs.List.{list_all}
 use Rattle.std.proofs.lemmas.List.Folds.{list_all-map}
 use Rattle.vtl_syntax.specs.declared.expr.OrderItem.{OrderItem}
-use Rattle.clause_trees.specs.Clauses.{bare_number_of}
-use Rattle.window_trees.specs.Parts.{are_known, order_items, partition_names}
+use Rattle.data_set_trees.specs.clauses.Clauses.{bare_number_of}
+use Rattle.data_set_trees.specs.windows.Parts.{are_known, order_items, partition_names}
 use Rattle.window_typing.proofs.parts.knows.Goals as goal
 
 pub returns-then-are_known : goal.returns-then-are_known

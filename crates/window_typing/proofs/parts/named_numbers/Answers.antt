@@ -1,6 +1,6 @@
 use Rattle.std.proofs.Common.{◌++◌, drop, ◌+◌, List, ℕ, ap, ◌∙◌, sym}
 use Rattle.std.specs.Prelude.{filter_map}
-use Rattle.clause_trees.specs.Clauses.{bare_number_of}
+use Rattle.data_set_trees.specs.clauses.Clauses.{bare_number_of}
 use Rattle.clause_typing.proofs.Walks.{kept, passed}
 use Rattle.window_typing.proofs.parts.named_numbers.Goals as goal
 use Rattle.window_typing.proofs.parts.named_numbers.Goals.{in-Some+in_ok-push, in_default}

@@ -1,6 +1,6 @@
 use Rattle.std.proofs.Common.{◌≡◌, ◌++◌, drop}
 use Rattle.std.specs.Prelude.{filter_map}
-use Rattle.clause_trees.specs.Clauses.{bare_number_of}
+use Rattle.data_set_trees.specs.clauses.Clauses.{bare_number_of}
 use Rattle.window_typing.proofs.parts.named_numbers.Given as goal
 
 abbrev pub invariant-loop-name : goal.invariant-loop-name

@@ -1,8 +1,8 @@
 use Rattle.std.proofs.Common.{◌++◌, drop, ◌+◌, List, ap, ◌∙◌, sym}
 use Rattle.std.specs.Prelude.{filter_map}
 use Rattle.clause_typing.proofs.Walks.{kept, passed}
-use Rattle.window_trees.specs.declared.analytic.OrderedBy.{OrderedBy}
-use Rattle.window_trees.specs.Parts.{ordered_by}
+use Rattle.data_set_trees.specs.declared.windows.analytic.OrderedBy.{OrderedBy}
+use Rattle.data_set_trees.specs.windows.Parts.{ordered_by}
 use Rattle.window_typing.proofs.parts.order_of.Goals as goal
 use Rattle.window_typing.proofs.parts.order_of.Goals.{in-Some+in_ok-push, in_default}
 

@@ -1,6 +1,6 @@
 use Rattle.std.proofs.Common.{◌≡◌, ◌++◌, drop}
 use Rattle.std.specs.Prelude.{filter_map}
-use Rattle.window_trees.specs.Parts.{ordered_by}
+use Rattle.data_set_trees.specs.windows.Parts.{ordered_by}
 use Rattle.window_typing.proofs.parts.order_of.Given as goal
 
 abbrev pub invariant-loop-item : goal.invariant-loop-item

@@ -1,7 +1,7 @@
 use Rattle.std.proofs.Common.{◌≡◌, ◌<◌, ℕ, length, Option, IfSome, sym, ap, subst, ◌∙◌}
 use Rattle.data_set_trees.specs.declared.tree.DataSetOperator.{DataSetOperator}
-use Rattle.checked_trees.specs.Operators.{Operator, an_operator}
-use Rattle.choice_meaning.specs.Choices.{chosen_number}
+use Rattle.data_set_trees.specs.checked.Operators.{Operator, an_operator}
+use Rattle.operator_meaning.specs.choices.Choices.{chosen_number}
 use Rattle.choice_ops.specs.Plans.{choice_in}
 use Rattle.choice_ops.proofs.Places.{chosen-within}
 use Rattle.choice_ops.proofs.plan.ChoicePlan.chosen_number.Goals as goal

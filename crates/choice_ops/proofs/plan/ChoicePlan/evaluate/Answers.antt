@@ -4,8 +4,8 @@ use Rattle.std.specs.Option.{option_copied}
 use Rattle.vtl_values.specs.declared.value.Value.{Value}
 use Rattle.point_sets.specs.DataSets.{entry_of}
 use Rattle.clause_eval.specs.Evaluations.{IsEvaluation}
-use Rattle.checked_trees.specs.Operators.{Operator}
-use Rattle.choice_meaning.specs.Choices.{ChoiceOn, chosen_values}
+use Rattle.data_set_trees.specs.checked.Operators.{Operator}
+use Rattle.operator_meaning.specs.choices.Choices.{ChoiceOn, chosen_values}
 use Rattle.choice_ops.specs.Plans.{choice_in, all_of, chosen_entry, value_of_places, IsPlan}
 use Rattle.choice_ops.specs.declared.values.ViralPlaces.{ViralPlaces}
 use Rattle.choice_ops.proofs.Places.{values-made}

@@ -2,9 +2,9 @@ use Rattle.std.proofs.Common.{false, Option, sym, ap, ◌∙◌}
 use Rattle.std.specs.Option.{option_map_or}
 use Rattle.vtl_values.specs.declared.value.Value.{Value}
 use Rattle.scalar_meaning.specs.Logic.{holds}
-use Rattle.checked_trees.specs.Operators.{Operator, an_operator}
+use Rattle.data_set_trees.specs.checked.Operators.{Operator, an_operator}
 use Rattle.point_sets.specs.DataSets.{entry_of}
-use Rattle.choice_meaning.specs.Choices.{is_true_in}
+use Rattle.operator_meaning.specs.choices.Choices.{is_true_in}
 use Rattle.choice_ops.specs.Plans.{choice_in, all_of}
 use Rattle.choice_ops.proofs.Places.{true-placed}
 use Rattle.choice_ops.proofs.plan.ChoicePlan.is_true_in.Goals as goal

@@ -3,8 +3,8 @@ use Rattle.scalar_meaning.specs.Rows.{point_row}
 use Rattle.scalar_eval.specs.Stops.{IsMeant}
 use Rattle.clause_meaning.specs.Clauses.{values_on}
 use Rattle.data_set_trees.specs.declared.tree.ChoiceMeasure.{ChoiceMeasure}
-use Rattle.checked_trees.specs.Operators.{Operator}
-use Rattle.choice_meaning.specs.Choices.{value_in}
+use Rattle.data_set_trees.specs.checked.Operators.{Operator}
+use Rattle.operator_meaning.specs.choices.Choices.{value_in}
 use Rattle.choice_ops.specs.Plans.{measures_in}
 use Rattle.choice_ops.proofs.plan.ChoicePlan.measures.Goals as goal
 

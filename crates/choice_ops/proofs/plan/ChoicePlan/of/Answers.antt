@@ -2,11 +2,11 @@ use Rattle.std.proofs.Common.{◌≡◌, List, map, true, false, Some, sym, ap, 
 use Rattle.std.specs.Prelude.{position}
 use Rattle.vtl_values.specs.declared.kind.Role.TheVariants.{Measure}
 use Rattle.vtl_values.specs.declared.structure.Component.{Component}
-use Rattle.clause_trees.specs.Frames.{has_role}
+use Rattle.data_set_trees.specs.clauses.Frames.{has_role}
 use Rattle.data_set_trees.specs.declared.tree.DataSetOperator.{DataSetOperator}
 use Rattle.data_set_trees.specs.Components.{virals}
-use Rattle.checked_trees.specs.Operators.{Operator, an_operator}
-use Rattle.choice_meaning.specs.Choices.{ChoiceOn, condition, chosen_number, chosen_structure}
+use Rattle.data_set_trees.specs.checked.Operators.{Operator, an_operator}
+use Rattle.operator_meaning.specs.choices.Choices.{ChoiceOn, condition, chosen_number, chosen_structure}
 use Rattle.choice_ops.specs.Plans.{choice_in, key_numbers, places_of, structure_of, IsPlan}
 use Rattle.choice_ops.proofs.plan.ChoicePlan.of.Goals as goal
 

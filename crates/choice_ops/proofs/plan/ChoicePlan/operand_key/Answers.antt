@@ -1,8 +1,8 @@
 use Rattle.std.proofs.Common.{◌≡◌, ◌<◌, ℕ, List, length, get_or, sym, ap, subst, ◌∙◌}
 use Rattle.std.proofs.lemmas.Result.{IfOk-weaker}
-use Rattle.checked_trees.specs.Operators.{Operator, an_operator}
+use Rattle.data_set_trees.specs.checked.Operators.{Operator, an_operator}
 use Rattle.clause_meaning.specs.Clauses.{values_at}
-use Rattle.choice_meaning.specs.Choices.{operand_key}
+use Rattle.operator_meaning.specs.choices.Choices.{operand_key}
 use Rattle.choice_ops.specs.Plans.{choice_in}
 use Rattle.choice_ops.specs.declared.plan.KeyNumbers.{KeyNumbers}
 use Rattle.choice_ops.proofs.Places.{operand-numbered}

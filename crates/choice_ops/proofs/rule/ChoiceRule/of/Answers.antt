@@ -1,4 +1,4 @@
-use Rattle.checked_trees.specs.Operators.{an_operator}
+use Rattle.data_set_trees.specs.checked.Operators.{an_operator}
 use Rattle.choice_ops.proofs.Chosen.{typed-choice}
 use Rattle.choice_ops.proofs.rule.ChoiceRule.of.Goals as goal
 

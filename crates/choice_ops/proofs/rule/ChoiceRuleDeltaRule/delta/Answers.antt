@@ -5,7 +5,7 @@ use Rattle.std.proofs.lemmas.List.{length-map}
 use Rattle.point_sets.specs.Changes.{Changes}
 use Rattle.held_index.specs.Reach.{changes_in}
 use Rattle.held_index.specs.Holdings.{contents}
-use Rattle.checked_trees.specs.Operators.{Operator}
+use Rattle.data_set_trees.specs.checked.Operators.{Operator}
 use Rattle.choice_ops.specs.Plans.{choice_in}
 use Rattle.choice_ops.specs.Noted.{keys_from, IsNoted}
 use Rattle.choice_ops.proofs.Chosen.{some-branches}

@@ -1,7 +1,7 @@
-use Rattle.typing_rules.specs.declared.scope.Basis.TheVariants.{Point, Group}
-use Rattle.typing_rules.specs.Scopes.{kinds_of}
-use Rattle.typing_rules.specs.Scalars as meant
-use Rattle.typing_rules.proofs.SoundNames.{aggregate-typed}
+use Rattle.scalar_trees.specs.declared.typing.scope.Basis.TheVariants.{Point, Group}
+use Rattle.scalar_trees.specs.typing.Scopes.{kinds_of}
+use Rattle.scalar_trees.specs.typing.Scalars as meant
+use Rattle.scalar_trees.proofs.typing.SoundNames.{aggregate-typed}
 use Rattle.component_typing.proofs.Steps.{answers_after, answers_as}
 use Rattle.component_typing.proofs.checker.Checker.aggregate_of_group.Goals as goal
 

@@ -1,7 +1,7 @@
-use Rattle.typing_rules.specs.Steps.{◌>>=◌}
-use Rattle.typing_rules.specs.Scopes.{kinds_of}
-use Rattle.typing_rules.specs.Scalars as meant
-use Rattle.typing_rules.proofs.Sound.{binary-typed}
+use Rattle.scalar_trees.specs.typing.Steps.{◌>>=◌}
+use Rattle.scalar_trees.specs.typing.Scopes.{kinds_of}
+use Rattle.scalar_trees.specs.typing.Scalars as meant
+use Rattle.scalar_trees.proofs.typing.Sound.{binary-typed}
 use Rattle.component_typing.proofs.Steps.{answers_after, answers_as}
 use Rattle.component_typing.proofs.checker.Checker.binary.Goals as goal
 

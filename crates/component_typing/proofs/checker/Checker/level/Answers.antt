@@ -5,8 +5,8 @@ use Rattle.vtl_syntax.specs.declared.expr.Expr.{Expr}
 use Rattle.vtl_syntax.specs.declared.expr.JoinOperand.{JoinOperand}
 use Rattle.scalar_trees.specs.declared.operators.BinaryOperator.{BinaryOperator}
 use Rattle.scalar_trees.specs.declared.operators.BinaryOperator.TheVariants as operator
-use Rattle.typing_rules.specs.Scopes.{kinds_of}
-use Rattle.typing_rules.specs.Scalars as meant
+use Rattle.scalar_trees.specs.typing.Scopes.{kinds_of}
+use Rattle.scalar_trees.specs.typing.Scalars as meant
 use Rattle.component_typing.specs.Parts.{after_typed, after_optional, substr_meaning}
 use Rattle.component_typing.proofs.Levels.{answers_level, substr_level, replace_level, join_level}
 use Rattle.component_typing.proofs.checker.Checker.level.Goals as goal

@@ -1,8 +1,8 @@
-use Rattle.typing_rules.specs.Steps.{◌>>=◌}
-use Rattle.typing_rules.specs.Scopes.{kinds_of}
-use Rattle.typing_rules.specs.Scalars as meant
+use Rattle.scalar_trees.specs.typing.Steps.{◌>>=◌}
+use Rattle.scalar_trees.specs.typing.Scopes.{kinds_of}
+use Rattle.scalar_trees.specs.typing.Scalars as meant
 use Rattle.std.specs.Option.{option_map}
-use Rattle.typing_rules.proofs.Sound.{replace-typed}
+use Rattle.scalar_trees.proofs.typing.Sound.{replace-typed}
 use Rattle.component_typing.proofs.Steps.{answers_after, answers_as, ends_there}
 use Rattle.component_typing.proofs.checker.Checker.replaced.Goals as goal
 

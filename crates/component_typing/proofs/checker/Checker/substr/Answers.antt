@@ -1,9 +1,9 @@
 use Rattle.std.specs.Prelude.{option_and_then}
 use Rattle.std.specs.Option.{option_map}
-use Rattle.typing_rules.specs.Steps.{◌>>=◌}
-use Rattle.typing_rules.specs.Scopes.{kinds_of}
-use Rattle.typing_rules.specs.Scalars as meant
-use Rattle.typing_rules.proofs.Sound.{substr-typed}
+use Rattle.scalar_trees.specs.typing.Steps.{◌>>=◌}
+use Rattle.scalar_trees.specs.typing.Scopes.{kinds_of}
+use Rattle.scalar_trees.specs.typing.Scalars as meant
+use Rattle.scalar_trees.proofs.typing.Sound.{substr-typed}
 use Rattle.component_typing.specs.Parts.{range_meaning}
 use Rattle.component_typing.proofs.Steps.{answers_after, answers_as, ends_there}
 use Rattle.component_typing.proofs.checker.Checker.substr.Goals as goal

@@ -1,6 +1,6 @@
-use Rattle.typing_rules.specs.Scalars.{meaning}
+use Rattle.scalar_trees.specs.typing.Scalars.{meaning}
 use Rattle.operator_typing.proofs.Steps.{passed_on}
-use Rattle.typing_rules.specs.Scalars.{visited}
+use Rattle.scalar_trees.specs.typing.Scalars.{visited}
 use Rattle.std.proofs.Common.{map}
 use Rattle.component_typing.proofs.Visits.{visited_next, visited_stops}
 use Rattle.component_typing.proofs.checker.Checker.visit.Goals as goal

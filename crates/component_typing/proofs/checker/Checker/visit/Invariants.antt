@@ -1,5 +1,5 @@
 use Rattle.std.proofs.Common.{◌≡◌, Ok, map, take}
-use Rattle.typing_rules.specs.Scalars.{visited, meaning}
+use Rattle.scalar_trees.specs.typing.Scalars.{visited, meaning}
 use Rattle.component_typing.proofs.checker.Checker.visit.Given as goal
 
 abbrev pub invariant-loop-tree : goal.invariant-loop-tree

@@ -1,5 +1,5 @@
 use Rattle.std.proofs.Common.{◌≡◌, Ok, map, take}
-use Rattle.typing_rules.specs.Scalars.{visited, operand_meaning}
+use Rattle.scalar_trees.specs.typing.Scalars.{visited, operand_meaning}
 use Rattle.component_typing.proofs.checker.Checker.visit_operands.Given as goal
 
 abbrev pub invariant-loop-operand : goal.invariant-loop-operand

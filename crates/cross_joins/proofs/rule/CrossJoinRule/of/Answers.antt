@@ -3,9 +3,9 @@ use Rattle.std.proofs.Common.{List, sym, subst}
 use Rattle.vtl_values.specs.declared.structure.Component.{Component}
 use Rattle.vtl_syntax.specs.declared.words.JoinFunction.TheVariants.{Cross}
 use Rattle.data_set_trees.specs.declared.tree.DataSetOperator.{DataSetOperator}
-use Rattle.checked_trees.specs.Operators.{IsTypedJoin, TakesOperands, an_operator}
-use Rattle.join_meaning.specs.Joins.{join_on}
-use Rattle.join_meaning.specs.Typed.{IsTypedJoinOn}
+use Rattle.data_set_trees.specs.checked.Operators.{IsTypedJoin, TakesOperands, an_operator}
+use Rattle.operator_meaning.specs.joins.Joins.{join_on}
+use Rattle.operator_meaning.specs.joins.Typed.{IsTypedJoinOn}
 use Rattle.cross_joins.proofs.rule.CrossJoinRule.of.Goals as goal
 
 pub of-requires : goal.of-requires

@@ -1,5 +1,5 @@
 use Rattle.std.proofs.Common.{subst}
-use Rattle.checked_trees.specs.Operators.{Operator}
+use Rattle.data_set_trees.specs.checked.Operators.{Operator}
 use Rattle.cross_joins.specs.Rules.{IsCrossOn}
 use Rattle.cross_joins.proofs.rule.CrossJoinRule.plan.Goals as goal
 

@@ -9,7 +9,7 @@ use Rattle.held_index.specs.Reach.{changes_in}
 use Rattle.held_index.specs.Rules.{answer_of}
 use Rattle.held_index.specs.declared.stop.Stop.{Stop}
 use Rattle.held_index.specs.declared.stop.Stop.TheVariants.{TooMany}
-use Rattle.checked_trees.specs.Operators.{Operator}
+use Rattle.data_set_trees.specs.checked.Operators.{Operator}
 use Rattle.cross_joins.proofs.Asked.{as-held, as-many, few-counted, few-steps, right-many, right-noted, right-nothing}
 use Rattle.cross_joins.proofs.rule.CrossJoinRuleDeltaRule.delta.Goals as goal
 

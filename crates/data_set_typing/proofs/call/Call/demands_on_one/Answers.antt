@@ -1,9 +1,9 @@
 use Rattle.std.proofs.Common.{◌≡◌, List, Bool, [], ◌∷◌, ap, subst, ◌∙◌}
 use Rattle.std.specs.Prelude.{IfErr}
-use Rattle.typing_rules.specs.declared.stop.Fault.{Fault}
-use Rattle.typing_rules.specs.declared.stop.Fault.TheVariants.{WrongType, WrongStructure, NameTwice}
-use Rattle.typing_rules.specs.Steps.{Refuses}
-use Rattle.clause_trees.specs.Clauses.{demands}
+use Rattle.scalar_trees.specs.declared.typing.stop.Fault.{Fault}
+use Rattle.scalar_trees.specs.declared.typing.stop.Fault.TheVariants.{WrongType, WrongStructure, NameTwice}
+use Rattle.scalar_trees.specs.typing.Steps.{Refuses}
+use Rattle.data_set_trees.specs.clauses.Clauses.{demands}
 use Rattle.data_set_trees.specs.Components.{measures}
 use Rattle.data_set_trees.specs.Lifted.{each_fits, has_one_if, is_free}
 use Rattle.data_set_typing.proofs.call.Call.demands_on_one.Goals as goal

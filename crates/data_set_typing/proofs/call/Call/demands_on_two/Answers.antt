@@ -1,7 +1,7 @@
 use Rattle.std.proofs.Common.{◌≡◌, ◌+◌, ◌<◌, ◌^◌, ◌&&◌, Bool, [], ◌∷◌, map, length, sym, subst, ◌∙◌}
 use Rattle.std.specs.List.{All}
-use Rattle.typing_rules.specs.declared.stop.Fault.TheVariants.{WrongType, WrongStructure}
-use Rattle.clause_trees.specs.Clauses.{demands}
+use Rattle.scalar_trees.specs.declared.typing.stop.Fault.TheVariants.{WrongType, WrongStructure}
+use Rattle.data_set_trees.specs.clauses.Clauses.{demands}
 use Rattle.data_set_trees.specs.declared.measure.Measure.{Measure}
 use Rattle.data_set_trees.specs.Lifted.{all_fit}
 use Rattle.data_set_trees.specs.Pairs.{both}

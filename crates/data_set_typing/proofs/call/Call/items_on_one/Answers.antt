@@ -1,5 +1,5 @@
 use Rattle.std.proofs.Common.{[]}
-use Rattle.typing_rules.specs.Steps.{◌>>=◌}
+use Rattle.scalar_trees.specs.typing.Steps.{◌>>=◌}
 use Rattle.operator_typing.proofs.Steps.{stops_there, fails_there, fails_after}
 use Rattle.data_set_trees.specs.Components.{measures}
 use Rattle.data_set_trees.specs.Lifted.{answer}

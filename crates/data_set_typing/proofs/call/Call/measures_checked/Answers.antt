@@ -1,6 +1,6 @@
 use Rattle.std.proofs.Common.{◌+◌, List, drop, ap, sym, ◌∙◌}
 use Rattle.std.proofs.Math.ListN.{drop_of_length-le}
-use Rattle.clause_trees.specs.declared.clause.CheckedMeasure.{CheckedMeasure}
+use Rattle.data_set_trees.specs.declared.clauses.clause.CheckedMeasure.{CheckedMeasure}
 use Rattle.operator_typing.proofs.Steps.{passed_on}
 use Rattle.data_set_parts.specs.Walks.{each}
 use Rattle.data_set_typing.specs.Plans.{measure_checked}

@@ -1,7 +1,7 @@
 use Rattle.std.proofs.Common.{◌+◌, List, Option, drop, ap, sym, ◌∙◌}
 use Rattle.std.proofs.Math.ListN.{drop_of_length-le}
-use Rattle.clause_trees.specs.declared.clause.CheckedMeasure.{CheckedMeasure}
-use Rattle.typing_rules.specs.declared.scope.Slot.{Slot}
+use Rattle.data_set_trees.specs.declared.clauses.clause.CheckedMeasure.{CheckedMeasure}
+use Rattle.scalar_trees.specs.declared.typing.scope.Slot.{Slot}
 use Rattle.operator_typing.proofs.Steps.{passed_on, stops_same}
 use Rattle.data_set_parts.specs.Walks.{each}
 use Rattle.data_set_typing.specs.Plans.{checked_at, pair_checked}

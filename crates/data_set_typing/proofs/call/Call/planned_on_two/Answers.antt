@@ -1,7 +1,7 @@
 use Rattle.std.proofs.Common.{◌≡◌, Ok, List, ap, sym, ◌∙◌}
 use Rattle.vtl_values.specs.declared.structure.Component.{Component}
-use Rattle.clause_trees.specs.declared.clause.CheckedMeasure.{CheckedMeasure}
-use Rattle.typing_rules.specs.Steps.{◌>>=◌}
+use Rattle.data_set_trees.specs.declared.clauses.clause.CheckedMeasure.{CheckedMeasure}
+use Rattle.scalar_trees.specs.typing.Steps.{◌>>=◌}
 use Rattle.operator_typing.proofs.Steps.{goes_on, stops_same, stops_there, fails_there, fails_after}
 use Rattle.data_set_trees.specs.declared.tree.DataSetOperator.TheVariants as operator
 use Rattle.data_set_trees.specs.Pairs.{result_fits, joined}

@@ -2,8 +2,8 @@
 use Rattle.std.proofs.Common.{◌≡◌, List, [], ◌∷◌, ◌++◌, length, refl, sym, ap, ◌∙◌}
 use Rattle.vtl_values.specs.declared.kind.Role.TheVariants.{Viral}
 use Rattle.vtl_values.specs.declared.structure.Component.{Component}
-use Rattle.clause_trees.specs.Frames.{numbers_of}
-use Rattle.checked_trees.specs.Operators.{an_operator}
+use Rattle.data_set_trees.specs.clauses.Frames.{numbers_of}
+use Rattle.data_set_trees.specs.checked.Operators.{an_operator}
 use Rattle.held_index.specs.declared.want.Want.{Want}
 use Rattle.exists_ops.proofs.Answered.{takes-two, two-in, typed-on, wants-built}
 use Rattle.exists_ops.proofs.rule.ExistsRule.of.Goals as goal

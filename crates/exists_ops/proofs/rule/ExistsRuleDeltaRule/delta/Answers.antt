@@ -5,13 +5,13 @@ use Rattle.std.specs.BTreeMap.{BTreeMap}
 use Rattle.std.specs.FinMap.{entries, keys}
 use Rattle.vtl_values.specs.declared.value.Value.{Value}
 use Rattle.point_sets.specs.Changes.{Changes}
-use Rattle.checked_trees.specs.Operators.{Operator}
+use Rattle.data_set_trees.specs.checked.Operators.{Operator}
 use Rattle.operator_meaning.specs.Operators.{meaning_of, AreOperands}
 use Rattle.held_index.specs.Drafts.{SetDraft}
 use Rattle.held_index.specs.Holdings.{Holding}
 use Rattle.held_index.specs.Rules.{IsRightAnswer}
 use Rattle.held_index.specs.declared.want.Want.{Want}
-use Rattle.exists_meaning.specs.Exists.{ExistsOn, exists_on}
+use Rattle.operator_meaning.specs.exists.Exists.{ExistsOn, exists_on}
 use Rattle.exists_ops.specs.Noted.{IsFor, IsNoted}
 use Rattle.exists_ops.specs.Parts.{AreShifts, left_numbers, left_want, right_numbers, right_want}
 use Rattle.exists_ops.specs.Rules.{both, operator_of, wanted_of}

@@ -1,6 +1,6 @@
 use Rattle.std.proofs.Common.{◌<◌, length, sym, ap, subst, ◌∙◌}
 use Rattle.std.proofs.lemmas.Result.{IfOk-weaker}
-use Rattle.join_meaning.specs.Joins.{JoinOn, join_key}
+use Rattle.operator_meaning.specs.joins.Joins.{JoinOn, join_key}
 use Rattle.join_eval.specs.Plans.{structure_of}
 use Rattle.inner_joins.specs.Rules.{key_from, IsInnerOn}
 use Rattle.inner_joins.proofs.Keys.{main-within}

@@ -1,5 +1,5 @@
 use Rattle.std.proofs.Common.{◌<◌, length, sym, ap, subst, ◌∙◌}
-use Rattle.join_meaning.specs.Joins.{JoinOn}
+use Rattle.operator_meaning.specs.joins.Joins.{JoinOn}
 use Rattle.inner_joins.specs.Rules.{main_number, IsInnerOn}
 use Rattle.inner_joins.proofs.Keys.{main-within}
 use Rattle.inner_joins.proofs.plan.InnerPlan.main.Goals as goal

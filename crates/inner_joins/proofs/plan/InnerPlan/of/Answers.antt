@@ -1,5 +1,5 @@
 use Rattle.std.proofs.Common.{refl, sym, subst}
-use Rattle.join_meaning.specs.Joins.{JoinOn}
+use Rattle.operator_meaning.specs.joins.Joins.{JoinOn}
 use Rattle.inner_joins.specs.Rules.{IsInnerOn}
 use Rattle.inner_joins.proofs.plan.InnerPlan.of.Goals as goal
 

@@ -1,9 +1,9 @@
 use Rattle.std.proofs.Common.{List, sym, subst}
 use Rattle.vtl_values.specs.declared.structure.Component.{Component}
 use Rattle.vtl_syntax.specs.declared.words.JoinFunction.TheVariants.{Inner}
-use Rattle.checked_trees.specs.Operators.{an_operator, Operator}
-use Rattle.join_meaning.specs.Joins.{join_on}
-use Rattle.join_meaning.specs.Typed.{IsTypedJoinOn}
+use Rattle.data_set_trees.specs.checked.Operators.{an_operator, Operator}
+use Rattle.operator_meaning.specs.joins.Joins.{join_on}
+use Rattle.operator_meaning.specs.joins.Typed.{IsTypedJoinOn}
 use Rattle.inner_joins.proofs.Wanted.{inner-on}
 use Rattle.inner_joins.proofs.rule.InnerJoinRule.of.Goals as goal
 

@@ -1,10 +1,10 @@
 -- The changes of all operands are noted, and so the draft ends in the right answer, within the reach.
 use Rattle.std.proofs.Common.{◌≤◌, ◌+◌, List, length, map, sym, ap, subst, ◌∙◌}
 use Rattle.std.specs.Arc.{arc_value}
-use Rattle.checked_trees.specs.Operators.{Operator}
+use Rattle.data_set_trees.specs.checked.Operators.{Operator}
 use Rattle.point_sets.specs.Changes.{Changes}
 use Rattle.held_index.specs.Holdings.{Holding}
-use Rattle.join_meaning.specs.Joins.{JoinOn}
+use Rattle.operator_meaning.specs.joins.Joins.{JoinOn}
 use Rattle.inner_joins.specs.Reach.{inner_reach}
 use Rattle.inner_joins.specs.Rules.{wants_on}
 use Rattle.inner_joins.proofs.Right.{right-for-all}

@@ -1,5 +1,5 @@
 use Rattle.std.proofs.Common.{ap, ◌∙◌}
-use Rattle.checked_trees.specs.Operators.{Operator}
+use Rattle.data_set_trees.specs.checked.Operators.{Operator}
 use Rattle.inner_joins.specs.Rules.{wanted_of}
 use Rattle.inner_joins.proofs.rule.InnerJoinRuleDeltaRule.wants.Goals as goal
 

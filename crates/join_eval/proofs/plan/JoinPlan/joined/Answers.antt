@@ -7,7 +7,7 @@ use Rattle.vtl_values.specs.declared.value.Value.{Value}
 use Rattle.vtl_syntax.specs.declared.words.JoinFunction.{JoinFunction}
 use Rattle.point_sets.specs.Changes.{values_of}
 use Rattle.point_sets.specs.declared.point.Point.{Point}
-use Rattle.join_meaning.specs.Joins.{JoinOn, key_components, stays, joined_values, joined_point}
+use Rattle.operator_meaning.specs.joins.Joins.{JoinOn, key_components, stays, joined_values, joined_point}
 use Rattle.join_eval.specs.Made.{AreAsMany, values_by}
 use Rattle.join_eval.specs.Plans.{side_of, viral_places}
 use Rattle.join_eval.specs.declared.virals.ViralPlaces.{ViralPlaces}

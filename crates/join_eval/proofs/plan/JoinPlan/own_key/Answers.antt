@@ -3,7 +3,7 @@ use Rattle.std.specs.Prelude.{slice_index_or}
 use Rattle.std.proofs.lemmas.List.{get_or_default}
 use Rattle.std.proofs.lemmas.Result.{IfOk-weaker}
 use Rattle.clause_meaning.specs.Clauses.{values_at}
-use Rattle.join_meaning.specs.Joins.{JoinOn, own_places}
+use Rattle.operator_meaning.specs.joins.Joins.{JoinOn, own_places}
 use Rattle.join_eval.proofs.Kept.{length-places}
 use Rattle.join_eval.proofs.plan.JoinPlan.own_key.Goals as goal
 

@@ -3,10 +3,10 @@ use Rattle.std.proofs.Common.{◌≡◌, List, length, sym, ap, subst, ◌∙◌
 use Rattle.vtl_values.specs.declared.structure.Component.{Component}
 use Rattle.data_set_trees.specs.declared.tree.DataSetOperator.{DataSetOperator}
 use Rattle.data_set_trees.specs.declared.tree.DataSetOperator.TheVariants.{Join}
-use Rattle.checked_trees.specs.Operators.{an_operator, IsTyped}
+use Rattle.data_set_trees.specs.checked.Operators.{an_operator, IsTyped}
 use Rattle.held_index.specs.Wants.{all_whole}
-use Rattle.join_meaning.specs.Joins.{JoinOn, join_on}
-use Rattle.join_meaning.specs.Typed.{IsTypedJoinOn}
+use Rattle.operator_meaning.specs.joins.Joins.{JoinOn, join_on}
+use Rattle.operator_meaning.specs.joins.Typed.{IsTypedJoinOn}
 use Rattle.outer_joins.specs.Rules.{is_outer, operator_of, wanted_of, IsOuter}
 use Rattle.outer_joins.proofs.Asked.{typed-join}
 use Rattle.outer_joins.proofs.rule.OuterJoinRule.of.Goals as goal

@@ -5,8 +5,8 @@ use Rattle.point_sets.specs.Changes.{Changes}
 use Rattle.held_index.specs.Holdings.{Holding}
 use Rattle.held_index.specs.Reach.{changes_in}
 use Rattle.held_index.proofs.WantLemmas.{length-all_whole}
-use Rattle.checked_trees.specs.Operators.{Operator}
-use Rattle.join_meaning.specs.Joins.{JoinOn}
+use Rattle.data_set_trees.specs.checked.Operators.{Operator}
+use Rattle.operator_meaning.specs.joins.Joins.{JoinOn}
 use Rattle.outer_joins.proofs.Asked.{as-many, few-steps, right-for-all}
 use Rattle.outer_joins.proofs.rule.OuterJoinRuleDeltaRule.delta.Goals as goal
 

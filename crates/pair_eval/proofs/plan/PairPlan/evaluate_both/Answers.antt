@@ -4,7 +4,7 @@ use Rattle.vtl_values.specs.declared.value.Value.{Value}
 use Rattle.scalar_meaning.specs.Rows.{point_row}
 use Rattle.clause_meaning.specs.Clauses.{worked_values}
 use Rattle.clause_eval.specs.Evaluations.{IsEvaluation}
-use Rattle.pair_meaning.specs.Pairs.{PairOn, pair_values}
+use Rattle.operator_meaning.specs.pairs.Pairs.{PairOn, pair_values}
 use Rattle.pair_eval.specs.Plans.{measures_of, viral_places, value_of_places}
 use Rattle.pair_eval.specs.declared.virals.ViralPlaces.{ViralPlaces}
 use Rattle.pair_eval.proofs.Places.{pair-made}

@@ -1,7 +1,7 @@
 use Rattle.std.proofs.Common.{◌≡◌, sym, ap, ◌∙◌}
 use Rattle.std.proofs.lemmas.Result.{IfOk-weaker}
 use Rattle.clause_meaning.specs.Clauses.{values_at}
-use Rattle.pair_meaning.specs.Pairs.{main}
+use Rattle.operator_meaning.specs.pairs.Pairs.{main}
 use Rattle.pair_eval.specs.Plans.{result_numbers}
 use Rattle.pair_eval.proofs.Places.{key-numbered}
 use Rattle.pair_eval.proofs.plan.PairPlan.result_key.Goals as goal

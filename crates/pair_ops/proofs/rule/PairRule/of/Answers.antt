@@ -2,8 +2,8 @@
 use Rattle.std.proofs.Common.{◌≡◌, ℕ, List, [], get_or, sym, ap, subst, ◌∙◌, arith}
 use Rattle.std.proofs.lemmas.List.{get_or_default}
 use Rattle.vtl_values.specs.declared.structure.Component.{Component}
-use Rattle.checked_trees.specs.Operators.{an_operator, Operator}
-use Rattle.pair_meaning.specs.Typed.{IsTypedPair}
+use Rattle.data_set_trees.specs.checked.Operators.{an_operator, Operator}
+use Rattle.operator_meaning.specs.pairs.Typed.{IsTypedPair}
 use Rattle.pair_eval.specs.Plans.{pair_of}
 use Rattle.pair_ops.proofs.Asked.{IsOfTwo, of_two, two_operands, typed_in}
 use Rattle.pair_ops.proofs.rule.PairRule.of.Goals as goal

@@ -3,7 +3,7 @@ use Rattle.std.specs.Prelude.{IfSome}
 use Rattle.std.specs.Arc.{arc_value}
 use Rattle.std.specs.List.{All}
 use Rattle.std.proofs.lemmas.List.Elements.{All-drop}
-use Rattle.checked_trees.specs.Scripts.{Script}
+use Rattle.data_set_trees.specs.checked.Scripts.{Script}
 use Rattle.round_core.specs.declared.slot.Slot.{Slot}
 use Rattle.round_core.specs.Slots.{ReadyIn, FirstReadyIn}
 use Rattle.round_core.proofs.ClaimLemmas.{waits_not, script_below, first_after, none_after, none_over, rest_of, if_some_weaker}

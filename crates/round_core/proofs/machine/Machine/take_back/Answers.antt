@@ -1,6 +1,6 @@
 use Rattle.std.proofs.Common.{subst, sym, arith}
-use Rattle.transform_nodes.specs.declared.work.Finish.{Finish}
-use Rattle.transform_nodes.specs.Nodes.{FinishFor}
+use Rattle.round_journal.specs.work.Finish.{Finish}
+use Rattle.round_journal.specs.Nodes.{FinishFor}
 use Rattle.round_journal.specs.Journals.{old_inputs, new_inputs}
 use Rattle.round_core.specs.Kept.{state_at}
 use Rattle.round_core.specs.declared.machine.Machine.{Machine}

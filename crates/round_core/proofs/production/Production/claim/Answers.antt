@@ -4,7 +4,7 @@ use Rattle.round_core.specs.Slots.{is_out}
 use Rattle.round_core.specs.declared.slot.Slot.{Slot}
 use Rattle.std.proofs.Common.{subst}
 use Rattle.std.specs.List.{All}
-use Rattle.checked_trees.specs.Scripts.{Script}
+use Rattle.data_set_trees.specs.checked.Scripts.{Script}
 use Rattle.round_core.specs.Kept.{state_at}
 use Rattle.round_core.specs.Slots.{ReadyIn}
 use Rattle.round_core.proofs.ClaimLemmas.{opened_of}

@@ -1,5 +1,5 @@
 use Rattle.std.proofs.Common.{◌∙◌, ap, subst}
-use Rattle.transform_nodes.specs.declared.work.DoneParts.{DoneParts}
+use Rattle.round_journal.specs.work.DoneParts.{DoneParts}
 use Rattle.round_core.specs.Answers.{given_what}
 use Rattle.round_core.specs.Kept.{seen_of}
 use Rattle.round_core.specs.Seen.{Seen, seen_with}

@@ -1,6 +1,6 @@
 use Rattle.std.proofs.Common.{sym, ap, subst, ◌∙◌}
 use Rattle.data_set_trees.specs.declared.tree.DataSetOperator.{DataSetOperator}
-use Rattle.checked_trees.specs.Operators.{Operator, IsTyped}
+use Rattle.data_set_trees.specs.checked.Operators.{Operator, IsTyped}
 use Rattle.set_ops.specs.Rules.{IsSet}
 use Rattle.set_ops.proofs.rule.SetRule.operation.Goals as goal
 

@@ -1,5 +1,5 @@
 use Rattle.std.proofs.Common.{ap, ◌∙◌}
-use Rattle.checked_trees.specs.Operators.{Operator}
+use Rattle.data_set_trees.specs.checked.Operators.{Operator}
 use Rattle.set_ops.specs.Readings.{readings_of}
 use Rattle.set_ops.proofs.rule.SetRule.readings.Goals as goal
 

@@ -6,7 +6,7 @@ use Rattle.point_sets.specs.Changes.{Changes}
 use Rattle.held_index.specs.Holdings.{AllPlain, Holding}
 use Rattle.held_index.specs.Reach.{changes_in}
 use Rattle.held_index.proofs.WantLemmas.{length-all_whole}
-use Rattle.checked_trees.specs.Operators.{Operator}
+use Rattle.data_set_trees.specs.checked.Operators.{Operator}
 use Rattle.set_ops.specs.Noted.{IsNoted, all_keys_read}
 use Rattle.set_ops.specs.Readings.{reading_between, readings_of}
 use Rattle.set_ops.specs.declared.reading.Reading.{Reading}

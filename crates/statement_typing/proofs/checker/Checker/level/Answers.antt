@@ -4,12 +4,12 @@ use Rattle.vtl_syntax.specs.declared.expr.Clause.TheOpen.{Expr-F}
 use Rattle.vtl_syntax.specs.declared.expr.Expr.{Expr}
 use Rattle.vtl_syntax.specs.declared.expr.JoinOperand.{JoinOperand}
 use Rattle.vtl_values.specs.declared.value.Value.{Value}
-use Rattle.typing_rules.specs.Scalars.{literal_typed}
+use Rattle.scalar_trees.specs.typing.Scalars.{literal_typed}
 use Rattle.scalar_trees.specs.declared.operators.UnaryOperator.{UnaryOperator}
 use Rattle.scalar_trees.specs.declared.operators.BinaryOperator.{BinaryOperator}
 use Rattle.scalar_trees.specs.declared.operators.BinaryOperator.TheVariants as operator
-use Rattle.typing_rules.specs.declared.stop.Fault.TheVariants.{WrongStructure}
-use Rattle.typing_rules.specs.Steps.{refused}
+use Rattle.scalar_trees.specs.declared.typing.stop.Fault.TheVariants.{WrongStructure}
+use Rattle.scalar_trees.specs.typing.Steps.{refused}
 use Rattle.data_set_trees.specs.declared.form.Form.{Form}
 use Rattle.data_set_trees.specs.declared.form.Form.TheVariants as form
 use Rattle.data_set_trees.specs.declared.tree.SetOperation.{SetOperation}
@@ -18,6 +18,7 @@ use Rattle.data_set_trees.specs.declared.operand.Operand.TheVariants as operands
 use Rattle.data_set_trees.specs.Members.{member_typed}
 use Rattle.data_set_trees.specs.Exists.{exists_typed}
 use Rattle.data_set_trees.specs.Sets.{sets_typed}
+use Rattle.expression_rules.specs.OnChecks.{check_typed}
 use Rattle.expression_rules.specs.OnClauses.{on_clause}
 use Rattle.expression_rules.specs.OnSets.{on_aggregate, on_window, on_offset, on_time, on_shift, on_fill}
 use Rattle.expression_rules.specs.Expressions as meant
@@ -115,8 +116,8 @@ returns-in-Aggregate g c =
 pub returns-in-Check : goal.returns-in-Check
 returns-in-Check g c =
     let naming = naming_of c.args.self.now.names.now in
-    let value : SetAnswer = refused WrongStructure c.in-Check.place in
-    answers_level naming (Expr-F.Check c.in-Check.operand c.in-Check.code c.in-Check.level c.in-Check.imbalance c.in-Check.output c.in-Check.place) c.args.self.now.tree.now value c.misplaced-in-Check.result (tree.rolls-Check c.in-Check.operand c.in-Check.code c.in-Check.level c.in-Check.imbalance c.in-Check.output c.in-Check.place ∙ sym c.in-Check.is) (check_level naming c.in-Check.operand c.in-Check.code c.in-Check.level c.in-Check.imbalance c.in-Check.output c.in-Check.place) c.misplaced-in-Check.ensures
+    let value : SetAnswer = after_all naming (meant.typing c.in-Check.operand ∷ of_optional c.in-Check.imbalance) (check_typed (record { code = c.in-Check.code; level = c.in-Check.level }) c.in-Check.output c.in-Check.place) in
+    answers_level naming (Expr-F.Check c.in-Check.operand c.in-Check.code c.in-Check.level c.in-Check.imbalance c.in-Check.output c.in-Check.place) c.args.self.now.tree.now value c.check.result (tree.rolls-Check c.in-Check.operand c.in-Check.code c.in-Check.level c.in-Check.imbalance c.in-Check.output c.in-Check.place ∙ sym c.in-Check.is) (check_level naming c.in-Check.operand c.in-Check.code c.in-Check.level c.in-Check.imbalance c.in-Check.output c.in-Check.place) c.check.ensures
 
 pub returns-in-Literal : goal.returns-in-Literal
 returns-in-Literal g c =

@@ -1,10 +1,10 @@
 use Rattle.std.proofs.Common.{◌≡◌, ◌<◌, Some, None, slice_get, length, refl, sym, ◌∙◌, ap, subst, List}
 use Rattle.std.specs.Prelude.{count_by}
 use Rattle.std.proofs.lemmas.Option.{slice_get_read}
-use Rattle.checked_trees.specs.declared.script.CheckedStatement.{CheckedStatement}
+use Rattle.data_set_trees.specs.declared.checked.script.CheckedStatement.{CheckedStatement}
 use Rattle.data_set_trees.specs.declared.tree.Source.{Source}
-use Rattle.checked_trees.specs.Expressions.{expression_of}
-use Rattle.checked_trees.specs.Scripts.{names_result}
+use Rattle.data_set_trees.specs.checked.Expressions.{expression_of}
+use Rattle.data_set_trees.specs.checked.Scripts.{names_result}
 use Rattle.transform_nodes.specs.Building.{CanBuild, IsBuilt}
 use Rattle.transform_nodes.specs.Trees.{plain}
 use Rattle.transform_nodes.proofs.NewNodeLemmas.{can_build, new_node}

@@ -1,0 +1,79 @@
+// Typed scripts.
+ghost use Rattle.std.specs.Prelude.{◌≡◌};
+
+use crate::DataSetTree;
+use sqlite_items::Items;
+use std::marker::Model;
+use vtl_values::{Structure, Structures, Word};
+
+/// A result, whether it is published (`<-`) or only used (`:=`), how it is worked out, and its structure.
+#[derive(Drop)]
+pub struct CheckedStatement {
+    pub name: Word,
+    pub persistent: bool,
+    pub tree: DataSetTree,
+    pub structure: Structure,
+}
+
+/// A script whose structures are worked out: the structures of its inputs, its statements in the order of the script, and
+/// an order of them in which operands come first. Contracts see it as these three.
+#[derive(Drop)]
+pub struct TypedScript {
+    inputs: Structures,
+    statements: Items<CheckedStatement>,
+    order: Items<u64>,
+}
+
+impl Model for TypedScript {
+    ghost use Rattle.data_set_trees.specs.checked.Scripts.{Script, script_coded, IsTypedScript};
+
+    ghost Value = { Script };
+
+    ghost coded = { script_coded };
+
+    ghost view = { λ s. record { inputs = s.inputs; statements = s.statements; order = s.order } };
+
+    ghost invariant = { λ s. IsTypedScript (record { inputs = s.inputs; statements = s.statements; order = s.order }) };
+}
+
+impl TypedScript {
+    ghost use Rattle.data_set_trees.specs.checked.Scripts.{IsTypedScript};
+
+    /// A script whose structures are worked out.
+    pub fn of(
+        inputs: Structures,
+        statements: Items<CheckedStatement>,
+        order: Items<u64>,
+    ) -> TypedScript
+        requires { IsTypedScript (record { inputs = inputs; statements = statements; order = order }) }
+        ensures { result ≡ record { inputs = inputs; statements = statements; order = order } }
+    {
+        TypedScript {
+            inputs,
+            statements,
+            order,
+        }
+    }
+
+    /// The structures of the inputs, by name and by number.
+    pub fn inputs(&self) -> &Structures
+        ensures { result.now ≡ self.now.inputs }
+    {
+        &self.inputs
+    }
+
+    /// The statements, in the order of the text. The script is a typed one.
+    pub fn statements(&self) -> &[CheckedStatement]
+        ensures value { result.now ≡ self.now.statements }
+        ensures typed { IsTypedScript self.now }
+    {
+        self.statements.as_slice()
+    }
+
+    /// The numbers of the statements, each after those that it uses.
+    pub fn order(&self) -> &[u64]
+        ensures { result.now ≡ self.now.order }
+    {
+        self.order.as_slice()
+    }
+}

@@ -1,8 +1,0 @@
-use Rattle.exists_meaning.proofs.Agreed.{met-by, met-apart}
-use Rattle.exists_meaning.proofs.laws.points_are_met.Goals as goal
-
-pub returns-clause-met : goal.returns-clause-met
-returns-clause-met c = met-by
-
-pub returns-clause-apart : goal.returns-clause-apart
-returns-clause-apart c = met-apart

@@ -1,8 +1,0 @@
-use Rattle.exists_meaning.proofs.Told.{no_more, not_too_many}
-use Rattle.exists_meaning.proofs.laws.points_stay_few.Goals as goal
-
-pub returns-clause-no_more : goal.returns-clause-no_more
-returns-clause-no_more c = no_more
-
-pub returns-clause-not_too_many : goal.returns-clause-not_too_many
-returns-clause-not_too_many c = not_too_many

@@ -1,8 +1,0 @@
-use Rattle.window_trees.proofs.Made.{calc_gives_structures, measures_give_structures}
-use Rattle.window_trees.proofs.laws.made_is_a_structure.Goals as goal
-
-pub returns-clause-calc : goal.returns-clause-calc
-returns-clause-calc c = calc_gives_structures
-
-pub returns-clause-measures : goal.returns-clause-measures
-returns-clause-measures c = measures_give_structures

@@ -1,8 +1,0 @@
-// What holds of analytic operators.
-ghost use Rattle.window_trees.specs.Laws.{CalcGivesStructures, MeasuresGiveStructures};
-
-/// What analytic operators give on a data set of a structure is one again.
-pub fn made_is_a_structure()
-    ensures calc { CalcGivesStructures }
-    ensures measures { MeasuresGiveStructures }
-{}
