@@ -21,7 +21,6 @@ use Rattle.script_graph.specs.declared.fault.PlacedFault.{PlacedFault as PlacedG
 use Rattle.script_graph.specs.Faults.{first_fault}
 use Rattle.data_set_trees.specs.checked.Scripts.{Script}
 use Rattle.vtl_values.specs.Structures.{NamedStructures}
-use Rattle.typed_forms.specs.Forms.{can_be_typed}
 use Rattle.script_typing.specs.Scripts.{typed_of}
 use Rattle.built_scripts.specs.Built.{is_script_built}
 use Rattle.scalar_trees.specs.declared.typing.stop.Fault.{Fault as TypeFault}
@@ -125,13 +124,9 @@ abbrev pub told_typed : Result Script Refusal → Stage Script
 told_typed (Ok script) = Ok script
 told_typed (Err refusal) = Err (refused_script refusal.place (type_line refusal.fault))
 
--- the structures of a script's statements, where all its forms are typed yet
-abbrev pub typed_stage : NamedStructures → tree.Script → Stage Script
-typed_stage structures script = if can_be_typed script then told_typed (typed_of structures script) else Err not_built
-
 -- the statements of a script have an order, and then their structures are worked out
 abbrev pub checked_structures : NamedStructures → tree.Script → Stage Script
-checked_structures structures script = after (told_graph (first_fault script structures)) (λ _. typed_stage structures script)
+checked_structures structures script = after (told_graph (first_fault script structures)) (λ _. told_typed (typed_of structures script))
 
 -- the tree with its defined operators written out, and the structures of its statements
 abbrev pub typed : NamedStructures → tree.Script → Stage Script

@@ -1,30 +1,13 @@
-// The stage of a script's graph.
-ghost use Rattle.std.specs.Prelude.{◌≡◌, IfOk, IfErr, Ok};
-ghost use Rattle.script_graph.specs.Faults.{first_fault};
-ghost use Rattle.commands.specs.Ends.{Gives, IsRefusal, Refuses};
-ghost use Rattle.commands.specs.Scripts.{graph_line, refused_script, told_graph};
+// The lines of faults of a script's graph.
+ghost use Rattle.std.specs.Prelude.{◌≡◌, IfOk};
+ghost use Rattle.commands.specs.Ends.{Gives, IsRefusal};
+ghost use Rattle.commands.specs.Scripts.{graph_line, refused_script};
 
 use crate::operators::{named_line, names_line};
 use crate::script::refused;
 use crate::stop::Stop;
-use script_graph::{GraphFault, GraphStop, PlacedFault, order};
+use script_graph::{GraphFault, PlacedFault};
 use std::alloc::{AllocError, Global};
-use vtl_syntax::Script;
-use vtl_values::Structures;
-
-/// Whether the statements of a script have an order: no name is given twice or stands for nothing, and no statement
-/// depends on itself.
-pub fn has_order(alloc: Global, script: &Script, structures: &Structures) -> Result<(), Stop>
-    ensures go { IfOk result (λ _. told_graph (first_fault script.now structures.now) ≡ Ok tt) }
-    ensures end { IfErr result (λ stop. Refuses stop (told_graph (first_fault script.now structures.now))) }
-    ensures kind { IfErr result IsRefusal }
-{
-    match order(alloc, script, structures) {
-        Ok(_) => Ok(()),
-        Err(GraphStop::Fault(placed)) => Err(refused_graph(alloc, &placed)?),
-        Err(GraphStop::Memory) => Err(Stop::Memory),
-    }
-}
 
 /// The end with the line of a fault of the graph.
 pub(crate) fn refused_graph(alloc: Global, placed: &PlacedFault) -> Result<Stop, AllocError>

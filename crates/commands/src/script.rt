@@ -19,8 +19,8 @@ use vtl_tokens::{Keyword, Token};
 use vtl_values::{Place, Structures};
 
 /// The script of a text with the structures of its statements, over inputs of these structures: its tokens are read, then
-/// the tree that they are; its defined operators are written out; its statements have an order; and then the structures
-/// are worked out, where all its forms are typed yet.
+/// the tree that they are; its defined operators are written out; its statements have an order; nothing is wrong with its
+/// rulesets; and then the structures are worked out.
 pub fn typed_script(alloc: Global, structures: Structures, text: &[u8]) -> Result<TypedScript, Stop>
     requires { length text.now ≤ SCRIPT_LIMIT }
     ensures go { IfOk result (λ script. script_of structures text.now ≡ Ok script) }

@@ -1,23 +1,20 @@
 // The stage of a script's structures.
 ghost use Rattle.std.specs.Prelude.{◌≡◌, ◌≤◌, length, IfOk, IfErr, Ok};
-ghost use Rattle.script_graph.specs.Faults.{first_fault};
 ghost use Rattle.commands.specs.Ends.{IsRefusal, Refuses};
-ghost use Rattle.commands.specs.Scripts.{told_graph, type_line, typed_stage, checked_structures};
+ghost use Rattle.commands.specs.Scripts.{type_line, checked_structures};
 
-use crate::graph::{has_order, refused_graph};
+use crate::graph::refused_graph;
 use crate::script::refused;
 use crate::stop::Stop;
-use crate::words::not_built;
 use data_set_trees::checked::TypedScript;
 use scalar_trees::typing::Fault;
 use script_typing::{ScriptStop, check_script};
 use std::alloc::Global;
-use typed_forms::can_be_typed;
 use vtl_syntax::Script;
 use vtl_values::Structures;
 
 /// The script with the structures of its statements: no name is given twice or stands for nothing, no statement depends on
-/// itself, and no statement has a fault of types.
+/// itself, and no ruleset and no statement has a fault of types.
 pub fn structures_of(
     alloc: Global,
     script: &Script,
@@ -29,10 +26,6 @@ pub fn structures_of(
     ensures end { IfErr result (λ stop. Refuses stop (checked_structures structures script.now)) }
     ensures kind { IfErr result IsRefusal }
 {
-    if !can_be_typed(script) {
-        has_order(alloc, script, &structures)?;
-        return Err(not_built(alloc));
-    }
     match check_script(alloc, script, structures) {
         Ok(typed) => Ok(typed),
         Err(ScriptStop::Graph(placed)) => Err(refused_graph(alloc, &placed)?),

@@ -8,11 +8,12 @@ use Rattle.data_set_trees.specs.declared.clauses.clause.CheckedClause.TheVariant
 use Rattle.data_set_trees.specs.clauses.After.{made}
 use Rattle.data_set_trees.specs.declared.operand.Operand.{Operand}
 use Rattle.data_set_trees.specs.Examples.{here, amount, input}
+use Rattle.expression_rules.specs.declared.point_clause.PointClause.TheVariants.{Alone}
 use Rattle.expression_rules.specs.JoinClauses.{Placed}
 
 -- a clause that renames the first component of a join
 abbrev pub renamed_first : List ℕ → List Placed
-renamed_first name = record { clause = Rename (record { component = 0; name = name } ∷ []); place = here } ∷ []
+renamed_first name = record { clause = Alone (Rename (record { component = 0; name = name } ∷ [])); place = here } ∷ []
 
 -- `over ()`
 abbrev pub whole : Over

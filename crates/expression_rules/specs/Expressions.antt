@@ -17,6 +17,7 @@ use Rattle.vtl_syntax.specs.declared.expr.Groups.{Groups}
 use Rattle.vtl_syntax.specs.declared.expr.Item.{Item}
 use Rattle.vtl_syntax.specs.declared.expr.JoinOperand.{JoinOperand}
 use Rattle.vtl_syntax.specs.declared.expr.SubstrRange.{SubstrRange}
+use Rattle.vtl_syntax.specs.declared.ruleset.Ruleset.{Ruleset}
 use Rattle.vtl_syntax.specs.declared.expr.Clause.TheOpen.{Expr-F, JoinOperand-F, SubstrRange-F}
 use Rattle.scalar_trees.specs.declared.operators.BinaryOperator.TheVariants as binary
 use Rattle.scalar_trees.specs.declared.typing.stop.Fault.TheVariants.{UnknownComponent, WrongType, WrongStructure}
@@ -40,12 +41,14 @@ use Rattle.data_set_trees.specs.Choices.{choice_typed}
 use Rattle.data_set_trees.specs.Joins.{alias_of}
 use Rattle.expression_rules.specs.OnClauses.{on_clause}
 use Rattle.expression_rules.specs.OnChecks.{check_typed}
+use Rattle.expression_rules.specs.OnRules.{datapoint_called, hierarchy_called, with_ruleset, on_datapoint, on_hierarchy, on_check_hierarchy}
 use Rattle.expression_rules.specs.OnSets.{on_aggregate, on_window, on_offset, on_time, on_shift, on_fill}
 use Rattle.expression_rules.specs.JoinClauses.{join_typed}
 
--- what the names of data sets stand for
-abbrev pub Naming : Type 0
-Naming = List ℕ → Option DataSet
+-- what the names of data sets stand for, and the rulesets that there are
+pub record Naming : Type 0 where
+  pub data_set : List ℕ → Option DataSet
+  pub rulesets : List Ruleset
 
 -- what an expression is checked to be, where names stand for these
 abbrev pub Typing : Type 0
@@ -120,10 +123,10 @@ abbrev pub clauses_of : Option (Clause × ⊤) → Option (Clause × ⊤) → Op
 clauses_of filter calc keep rename = map (λ (p : Clause × ⊤). p.0) (((option_to_list filter ++ option_to_list calc) ++ option_to_list keep) ++ option_to_list rename)
 
 -- Names stand for data sets; each operator has its operands, and then its own faults. `count()` and `rank` have no place
--- outside of clauses. What isn't typed yet is refused here, and never asked for.
+-- outside of clauses. Calls of defined operators are written out before, and are none here.
 abbrev pub typed_step : Level → Naming → SetAnswer
 typed_step (Expr-F.Literal v place) naming = Ok (operand.Scalar (literal_typed v))
-typed_step (Expr-F.Name name place) naming = named_typed (naming name) place
+typed_step (Expr-F.Name name place) naming = named_typed (naming.data_set name) place
 typed_step (Expr-F.Bracket a place) naming = a.1 naming
 typed_step (Expr-F.Signed sign a place) naming = on_operands (form.Unary (prefix_operator sign)) place (a.1 ∷ []) naming
 typed_step (Expr-F.Unary f a place) naming = on_operands (form.Unary (unary_operator f)) place (a.1 ∷ []) naming
@@ -152,9 +155,11 @@ typed_step (Expr-F.Window f a over place) naming = a.1 naming >>= on_window f ov
 typed_step (Expr-F.CountAll place) naming = refused WrongStructure place
 typed_step (Expr-F.Offset f a offset over place) naming = a.1 naming >>= on_offset f offset over place
 typed_step (Expr-F.Rank over place) naming = refused WrongStructure place
-typed_step (Expr-F.CheckDatapoint a rules rules_place output place) naming = refused WrongStructure place
-typed_step (Expr-F.Hierarchy a rules rules_place component mode input output place) naming = refused WrongStructure place
-typed_step (Expr-F.CheckHierarchy a rules rules_place component mode input output place) naming = refused WrongStructure place
+typed_step (Expr-F.CheckDatapoint a rules rules_place output place) naming = with_ruleset (datapoint_called naming.rulesets rules) rules_place (λ r. a.1 naming >>= on_datapoint output place r)
+typed_step (Expr-F.Hierarchy a rules rules_place component mode input output place) naming =
+    with_ruleset (hierarchy_called naming.rulesets rules) rules_place (λ r. a.1 naming >>= on_hierarchy component mode input output place r)
+typed_step (Expr-F.CheckHierarchy a rules rules_place component mode input output place) naming =
+    with_ruleset (hierarchy_called naming.rulesets rules) rules_place (λ r. a.1 naming >>= on_check_hierarchy component mode input output place r)
 typed_step (Expr-F.Check a code level imbalance output place) naming = all_typed (a.1 ∷ typings (option_to_list imbalance)) naming >>= check_typed (record { code = code; level = level }) output place
 typed_step (Expr-F.Time f a place) naming = a.1 naming >>= on_time f place
 typed_step (Expr-F.Timeshift a shift place) naming = a.1 naming >>= on_shift shift place

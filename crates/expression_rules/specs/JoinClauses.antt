@@ -8,9 +8,7 @@ use Rattle.scalar_trees.specs.declared.typing.stop.Fault.TheVariants.{WrongStruc
 use Rattle.scalar_trees.specs.declared.typing.stop.Refusal.{Refusal}
 use Rattle.scalar_trees.specs.typing.Scalars.{place_of}
 use Rattle.scalar_trees.specs.typing.Steps.{◌>>=◌, demanded, or_refused}
-use Rattle.data_set_trees.specs.declared.clauses.clause.CheckedClause.{CheckedClause}
 use Rattle.data_set_trees.specs.declared.clauses.frame.Frame.{Frame}
-use Rattle.data_set_trees.specs.clauses.After.{after}
 use Rattle.data_set_trees.specs.clauses.Clauses as clauses
 use Rattle.data_set_trees.specs.declared.operand.DataSet.{DataSet}
 use Rattle.data_set_trees.specs.declared.operand.Operand.{Operand}
@@ -20,19 +18,21 @@ use Rattle.data_set_trees.specs.Components.{names_differ, unlisted}
 use Rattle.data_set_trees.specs.Trees.{SetAnswer, applied}
 use Rattle.data_set_trees.specs.Sets.{all_data_sets}
 use Rattle.data_set_trees.specs.Joins.{Aliased, structures_of, may_join, join_frame, numbered, all_aliased, aliases_differ}
-use Rattle.expression_rules.specs.OnClauses.{clause_checked}
+use Rattle.expression_rules.specs.declared.point_clause.PointClause.{PointClause}
+use Rattle.expression_rules.specs.OnClauses.{point_checked}
+use Rattle.expression_rules.specs.PointClauses.{after, operator_inside}
 
 -- ---- the clauses inside
 
 -- a clause at its place
 pub record Placed : Type 0 where
-  pub clause : CheckedClause
+  pub clause : PointClause
   pub place : Place
 
 -- the clauses, each on what the one before it leaves, or the first fault
 abbrev pub inside : List Clause → Frame → Result (List Placed) Refusal
 inside [] frame = Ok []
-inside (c ∷ cs) frame = clause_checked c frame >>= (λ checked. inside cs (after checked frame) >>= (λ others. Ok (record { clause = checked; place = place_of c } ∷ others)))
+inside (c ∷ cs) frame = point_checked c frame >>= (λ checked. inside cs (after checked frame) >>= (λ others. Ok (record { clause = checked; place = place_of c } ∷ others)))
 
 abbrev pub after_all : List Placed → Frame → Frame
 after_all [] frame = frame
@@ -46,7 +46,7 @@ structure_before (c ∷ cs) frame = numbered 0 (map unlisted frame.components)
 -- the clauses on a data set of a join, whose frame is this one
 abbrev pub with_clauses : List Placed → Frame → DataSet → DataSet
 with_clauses [] frame d = d
-with_clauses (c ∷ cs) frame d = with_clauses cs (after c.clause frame) (applied (operator.InJoin c.clause) c.place (d ∷ []) (structure_before cs (after c.clause frame)))
+with_clauses (c ∷ cs) frame d = with_clauses cs (after c.clause frame) (applied (operator_inside c.clause) c.place (d ∷ []) (structure_before cs (after c.clause frame)))
 
 -- ---- a join
 

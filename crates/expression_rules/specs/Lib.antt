@@ -1,6 +1,8 @@
+pub mod PointClauses
 pub mod OnClauses
 pub mod JoinClauses
 pub mod OnSets
 pub mod OnChecks
+pub mod OnRules
 pub mod Expressions
 pub mod Examples

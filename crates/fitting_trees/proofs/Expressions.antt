@@ -36,15 +36,17 @@ use Rattle.expression_rules.specs.JoinClauses.{join_typed}
 use Rattle.data_set_trees.specs.Members.{member_typed}
 use Rattle.expression_rules.specs.OnChecks.{check_typed}
 use Rattle.expression_rules.specs.OnClauses.{on_clause}
+use Rattle.expression_rules.specs.OnRules.{datapoint_called, hierarchy_called, on_datapoint, on_hierarchy, on_check_hierarchy}
 use Rattle.expression_rules.specs.OnSets.{on_aggregate, on_window, on_offset, on_time, on_shift, on_fill}
 use Rattle.data_set_trees.specs.Pairs.{lifted}
 use Rattle.data_set_trees.specs.Sets.{sets_typed}
 use Rattle.data_set_trees.specs.Trees.{SetAnswer}
 use Rattle.fitting_trees.specs.Fitting.{IsFitting}
-use Rattle.literal_ranges.specs.Ranges.{if_given, all_are, range_step as ranged, clause_range_step, item_range_step, operand_range_step, part_range_step, groups_range_step, literals_in_range, clause_in_range, groups_in_range, operand_in_range, part_in_range}
+use Rattle.literal_ranges.specs.Ranges.{if_given, all_are, range_step as ranged, clause_range_step, item_range_step, operand_range_step, part_range_step, groups_range_step, literals_in_range, clause_in_range, groups_in_range, operand_in_range, part_in_range, ruleset_in_range}
 use Rattle.fitting_trees.proofs.Joins.{join_typed-fits}
 use Rattle.fitting_trees.proofs.Lifted.{form_in_range}
-use Rattle.fitting_trees.proofs.Rows.{IsFit, Fits, lifted-fits, literal-fits, named-fits, sorted-fits, member-fits, exists-fits, sets_typed-fits, choice-fits, check_typed-fits, on_clause-fits, on_aggregate-fits, on_window-fits, on_offset-fits, on_time-fits, on_shift-fits, on_fill-fits}
+use Rattle.fitting_trees.proofs.Rows.{IsFit, Fits, lifted-fits, literal-fits, named-fits, sorted-fits, member-fits, exists-fits, sets_typed-fits, choice-fits, check_typed-fits, on_clause-fits, on_aggregate-fits, on_window-fits, on_offset-fits, on_time-fits, on_shift-fits, on_fill-fits, with_ruleset-fits, on_datapoint-fits, on_hierarchy-fits, on_check_hierarchy-fits}
+use Rattle.fitting_trees.proofs.Rulesets.{datapoint-ranged, hierarchy-ranged}
 use Rattle.fitting_trees.proofs.Scalars.{answered, Truths, ranges, level-in_range, part-in_range, gave}
 
 function-ranged : (f : BinaryFunction) → form_in_range (form_of_function f) ≡ true
@@ -81,7 +83,7 @@ parts = record {
   on_SubstrRange = λ r. (r, range_typing r);
 }
 
-module _ (structures : Source → Option (List Component)) (among : Source → Type 0) (naming : Naming) (names : (name : List ℕ) (d : DataSet) → naming name ≡ Some d → IsFitting structures among d) where
+module _ (structures : Source → Option (List Component)) (among : Source → Type 0) (naming : Naming) (names : (name : List ℕ) (d : DataSet) → naming.data_set name ≡ Some d → IsFitting structures among d) (rulesets : list_all ruleset_in_range naming.rulesets ≡ true) where
   abbrev Fit : Operand → Type 0
   Fit o = IsFit structures among o
 
@@ -229,7 +231,7 @@ module _ (structures : Source → Option (List Component)) (among : Source → T
 
   level : (y : SuchExpr) → ranged (over-Expr {X = Trees} {Y = Truths} ranges (over-Expr {X = Such} {Y = Trees} firsts y)) ≡ true → FitsAll (typed_step (over-Expr {X = Trees} {Y = Parts} parts (over-Expr {X = Such} {Y = Trees} firsts y)) naming)
   level (Expr-F.Literal v place) r = literal-fits structures among v r
-  level (Expr-F.Name name place) r = named-fits structures among (naming name) place (names name)
+  level (Expr-F.Name name place) r = named-fits structures among (naming.data_set name) place (names name)
   level (Expr-F.Bracket a place) r = a.1 r
   level (Expr-F.Signed sign a place) r = on_operands-fits (form.Unary (prefix_operator sign)) refl place (type_of a ∷ []) (one-of a r)
   level (Expr-F.Unary f a place) r = on_operands-fits (form.Unary (unary_operator f)) refl place (type_of a ∷ []) (one-of a r)
@@ -275,6 +277,15 @@ module _ (structures : Source → Option (List Component)) (among : Source → T
       after_one (type_of a) (on_aggregate f (Some g.0) place) (a.1 (left (good a) (groups_in_range g.0) r)) (on_aggregate-fits structures among f (Some g.0) place (right (good a) (groups_in_range g.0) r))
   level (Expr-F.Window f a over place) r = after_one (type_of a) (on_window f over place) (a.1 r) (on_window-fits structures among f over place)
   level (Expr-F.Offset f a offset over place) r = after_one (type_of a) (on_offset f offset over place) (a.1 r) (on_offset-fits structures among f offset over place)
+  level (Expr-F.CheckDatapoint a rules rules_place output place) r =
+      with_ruleset-fits structures among (datapoint_called naming.rulesets rules) rules_place (λ q. typing a.0 naming >>= on_datapoint output place q)
+      (λ q is. after_one (type_of a) (on_datapoint output place q) (a.1 r) (on_datapoint-fits structures among output place q (datapoint-ranged naming.rulesets rules q rulesets is)))
+  level (Expr-F.Hierarchy a rules rules_place component mode input output place) r =
+      with_ruleset-fits structures among (hierarchy_called naming.rulesets rules) rules_place (λ q. typing a.0 naming >>= on_hierarchy component mode input output place q)
+      (λ q is. after_one (type_of a) (on_hierarchy component mode input output place q) (a.1 r) (on_hierarchy-fits structures among component mode input output place q (hierarchy-ranged naming.rulesets rules q rulesets is)))
+  level (Expr-F.CheckHierarchy a rules rules_place component mode input output place) r =
+      with_ruleset-fits structures among (hierarchy_called naming.rulesets rules) rules_place (λ q. typing a.0 naming >>= on_check_hierarchy component mode input output place q)
+      (λ q is. after_one (type_of a) (on_check_hierarchy component mode input output place q) (a.1 r) (on_check_hierarchy-fits structures among component mode input output place q (hierarchy-ranged naming.rulesets rules q rulesets is)))
   level (Expr-F.Check a code severity None output place) r =
       after_all (type_of a ∷ []) (check_typed (record { code = code; level = severity }) output place) (one-of a (left (good a) true r)) (check_typed-fits structures among (record { code = code; level = severity }) output place)
   level (Expr-F.Check a code severity (Some b) output place) r =

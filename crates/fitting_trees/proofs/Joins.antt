@@ -12,10 +12,8 @@ use Rattle.scalar_trees.specs.declared.typing.stop.Fault.TheVariants.{WrongStruc
 use Rattle.scalar_trees.specs.typing.Scalars.{place_of}
 use Rattle.scalar_trees.specs.typing.Steps.{◌>>=◌, or_refused, demanded}
 use Rattle.scalar_trees.proofs.typing.Sound.{left, right}
-use Rattle.data_set_trees.specs.declared.clauses.clause.CheckedClause.{CheckedClause}
 use Rattle.data_set_trees.specs.declared.clauses.frame.Frame.{Frame}
 use Rattle.data_set_trees.specs.clauses.Frames.{frame_of}
-use Rattle.data_set_trees.specs.clauses.After.{after}
 use Rattle.data_set_trees.specs.clauses.Clauses as clauses
 use Rattle.data_set_trees.specs.declared.operand.DataSet.{DataSet}
 use Rattle.data_set_trees.specs.declared.operand.Operand.{Operand}
@@ -25,17 +23,20 @@ use Rattle.data_set_trees.specs.declared.tree.Source.{Source}
 use Rattle.data_set_trees.specs.Components.{unlisted, names_differ}
 use Rattle.data_set_trees.specs.Joins.{Aliased, may_join, join_components, structures_of, aliases_differ, all_aliased, join_frame, numbered}
 use Rattle.expression_rules.specs.JoinClauses.{Placed, inside, after_all, structure_before, with_clauses, joined, join_of, join_typed}
-use Rattle.expression_rules.specs.OnClauses.{clause_checked}
+use Rattle.expression_rules.specs.declared.point_clause.PointClause.{PointClause}
+use Rattle.expression_rules.specs.declared.point_clause.PointClause.TheVariants.{Alone, Analytic}
+use Rattle.expression_rules.specs.OnClauses.{point_checked}
+use Rattle.expression_rules.specs.PointClauses.{after, operator_inside}
 use Rattle.data_set_trees.specs.Sets.{all_data_sets}
 use Rattle.data_set_trees.specs.Trees.{SetAnswer, applied}
-use Rattle.data_set_trees.specs.checked.Operators.{IsTypedJoin, IsTypedInJoin, unnamed}
+use Rattle.data_set_trees.specs.checked.Operators.{an_operator, AreSameButNames, IsTypedJoin, TakesOperands, unnamed}
 use Rattle.fitting_trees.specs.Fitting.{IsFitting}
 use Rattle.literal_ranges.specs.Ranges.{clause_in_range}
 use Rattle.fitting_trees.proofs.Applied.{applied-fits}
-use Rattle.fitting_trees.proofs.Clauses.{clause-typed}
+use Rattle.fitting_trees.proofs.Analytic.{is_well, point-typed}
 use Rattle.fitting_trees.proofs.Rows.{IsFit, Fits, given-fits, or-given, demands-hold, all_sets-fit}
 use Rattle.fitting_trees.proofs.Scalars.{gave}
-use Rattle.fitting_trees.proofs.Unnamed.{plain, unnamed_unlisted, unnamed_before, plain_numbered, after_alike, well_typed_alike}
+use Rattle.fitting_trees.proofs.Unnamed.{plain, unnamed_unlisted, unnamed_before, plain_numbered, point_after_alike, well_alike}
 
 -- the structures of operands under aliases are their own
 aliased-are : (aliases : List (Option (List ℕ))) (ds : List DataSet) (os : List Aliased) → all_aliased aliases ds ≡ Some os → structures_of os ≡ map (λ (d : DataSet). d.structure) ds
@@ -71,28 +72,29 @@ module _ (structures : Source → Option (List Component)) (among : Source → T
 
   -- ---- the clauses inside
 
+  -- a clause inside a join is well typed there, and gives what it says but for the names
+  takes-inside : (k : PointClause) (operand structure : List Component) → is_well (frame_of operand) k ≡ true → AreSameButNames structure (map unlisted (after k (frame_of operand)).components) → TakesOperands (an_operator (operator_inside k) (operand ∷ []) structure)
+  takes-inside (Alone c) operand structure well same = record { operand = operand; one = refl; typed = well; after_it = same }
+  takes-inside (Analytic w) operand structure well same = record { operand = operand; one = refl; well = well; after_it = same }
+
   -- a clause inside a join, on a data set whose components are called by their numbers
-  in_join-fits : (written : Clause) → clause_in_range written ≡ true → (frame : Frame) (c : CheckedClause) → clause_checked written frame ≡ Ok c → (cs : List Placed) (d : DataSet) → SetFits d → d.structure ≡ numbered 0 (map unlisted frame.components)
-      → SetFits (applied (operator.InJoin c) (place_of written) (d ∷ []) (structure_before cs (after c frame)))
-  in_join-fits written r frame c e cs d fit is =
+  in_join-fits : (written : Clause) → clause_in_range written ≡ true → (frame : Frame) (k : PointClause) → point_checked written frame ≡ Ok k → (cs : List Placed) (d : DataSet) → SetFits d → d.structure ≡ numbered 0 (map unlisted frame.components)
+      → SetFits (applied (operator_inside k) (place_of written) (d ∷ []) (structure_before cs (after k frame)))
+  in_join-fits written r frame k e cs d fit is =
       let own = frame_of d.structure in
       let alike : map plain frame.components ≡ map plain d.structure = sym (plain_numbered 0 frame.components) ∙ ap (map plain) (sym is) in
-      let takes : IsTypedInJoin c (d.structure ∷ []) (structure_before cs (after c frame)) = record {
-        operand = d.structure;
-        one = refl;
-        typed = sym (well_typed_alike c frame own alike) ∙ clause-typed frame written c r e;
-        after_it = unnamed_before cs (after c frame) ∙ after_alike c frame own alike ∙ sym (unnamed_unlisted (after c own).components);
-      } in
-      applied-fits structures among (operator.InJoin c) (place_of written) (d ∷ []) (structure_before cs (after c frame)) (All-cons SetFits d [] fit (All-nil SetFits)) takes
+      let takes = takes-inside k d.structure (structure_before cs (after k frame)) (sym (well_alike k frame own alike) ∙ point-typed frame written k r e)
+      (unnamed_before cs (after k frame) ∙ point_after_alike k frame own alike ∙ sym (unnamed_unlisted (after k own).components)) in
+      applied-fits structures among (operator_inside k) (place_of written) (d ∷ []) (structure_before cs (after k frame)) (All-cons SetFits d [] fit (All-nil SetFits)) takes
 
   with_clauses-fits : (cs : List Clause) → list_all clause_in_range cs ≡ true → (frame : Frame) (checked : List Placed) → inside cs frame ≡ Ok checked → (d : DataSet) → SetFits d → d.structure ≡ structure_before checked frame → SetFits (with_clauses checked frame d)
   with_clauses-fits [] r frame checked e d fit is = let none : [] ≡ checked = cc in subst (λ (ps : List Placed). SetFits (with_clauses ps frame d)) none fit
   with_clauses-fits (c ∷ cs) r frame checked e d fit is =
-      let first = gave (clause_checked c frame) (λ k. inside cs (after k frame) >>= (λ others. Ok (record { clause = k; place = place_of c } ∷ others))) checked e in
+      let first = gave (point_checked c frame) (λ k. inside cs (after k frame) >>= (λ others. Ok (record { clause = k; place = place_of c } ∷ others))) checked e in
       let own : Placed = record { clause = first.0; place = place_of c } in
       let others = gave (inside cs (after first.0 frame)) (λ others. Ok (own ∷ others)) checked first.2 in
       let same : own ∷ others.0 ≡ checked = cc in
-      let next = applied (operator.InJoin first.0) (place_of c) (d ∷ []) (structure_before others.0 (after first.0 frame)) in
+      let next = applied (operator_inside first.0) (place_of c) (d ∷ []) (structure_before others.0 (after first.0 frame)) in
       let here : d.structure ≡ numbered 0 (map unlisted frame.components) = is ∙ ap (λ (ps : List Placed). structure_before ps frame) (sym same) in
       let fits = in_join-fits c (left (clause_in_range c) (list_all clause_in_range cs) r) frame first.0 first.1 others.0 d fit here in
       subst (λ (ps : List Placed). SetFits (with_clauses ps frame d)) same

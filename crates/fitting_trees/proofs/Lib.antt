@@ -3,6 +3,8 @@ pub mod Clauses
 pub mod Numbered
 pub mod Aggregates
 pub mod Windows
+pub mod Analytic
+pub mod Rulesets
 pub mod Times
 pub mod Applied
 pub mod Components

@@ -13,7 +13,14 @@ use Rattle.vtl_syntax.specs.declared.words.ExistsRows.TheVariants as rows
 use Rattle.vtl_syntax.specs.declared.words.Sort.{Sort}
 use Rattle.vtl_syntax.specs.declared.words.Sort.TheVariants as sort
 use Rattle.vtl_syntax.specs.declared.words.AggregateFunction.{AggregateFunction}
+use Rattle.vtl_syntax.specs.declared.ruleset.DatapointRules.{DatapointRules}
+use Rattle.vtl_syntax.specs.declared.ruleset.HierarchyRules.{HierarchyRules}
+use Rattle.vtl_syntax.specs.declared.words.CheckInput.{CheckInput}
 use Rattle.vtl_syntax.specs.declared.words.CheckOutput.{CheckOutput}
+use Rattle.vtl_syntax.specs.declared.words.HierarchyInput.{HierarchyInput}
+use Rattle.vtl_syntax.specs.declared.words.HierarchyOutput.{HierarchyOutput}
+use Rattle.vtl_syntax.specs.declared.words.Mode.{Mode}
+use Rattle.vtl_syntax.specs.declared.words.RowsOutput.{RowsOutput}
 use Rattle.vtl_syntax.specs.declared.words.FillSpan.{FillSpan}
 use Rattle.vtl_syntax.specs.declared.words.OffsetFunction.{OffsetFunction}
 use Rattle.vtl_syntax.specs.declared.words.TimeFunction.{TimeFunction}
@@ -65,7 +72,11 @@ use Rattle.expression_rules.specs.Expressions.{sorted, named_typed}
 use Rattle.data_set_trees.specs.Forms.{changed_name, is_of_two}
 use Rattle.data_set_trees.specs.Lifted.{answer, each_fits, all_fit, has_one_if, is_free, set_place, measures_checked, on_none, on_one, on_many}
 use Rattle.data_set_trees.specs.Members.{member_from, member_typed}
-use Rattle.expression_rules.specs.OnClauses.{clause_checked, on_points, by_form, on_clause}
+use Rattle.expression_rules.specs.declared.point_clause.PointClause.{PointClause}
+use Rattle.expression_rules.specs.declared.point_clause.PointClause.TheVariants.{Alone, Analytic}
+use Rattle.expression_rules.specs.OnClauses.{point_checked, on_points, by_form, on_clause}
+use Rattle.expression_rules.specs.OnRules.{datapoint_called, hierarchy_called, with_ruleset, on_datapoint, on_hierarchy, on_check_hierarchy}
+use Rattle.expression_rules.specs.PointClauses as points
 use Rattle.expression_rules.specs.OnChecks as checks
 use Rattle.expression_rules.specs.OnSets as rules
 use Rattle.expression_rules.specs.OnSets.{with_operator, on_set, on_aggregate, on_aggr, on_window, on_offset, on_time, on_shift, on_fill}
@@ -74,13 +85,19 @@ use Rattle.data_set_trees.specs.Sets.{all_data_sets, set_of, sets_typed}
 use Rattle.data_set_trees.specs.Trees.{SetAnswer, applied, with_clause, data_sets}
 use Rattle.data_set_trees.specs.checked.Operators.{an_operator, kinds_on_both, IsPairOf, IsTypedPair, IsTypedSet, IsTypedExists, IsTypedChoice, IsTypedCheck, TakesOperands}
 use Rattle.fitting_trees.specs.Fitting.{IsFitting}
-use Rattle.literal_ranges.specs.Ranges.{if_given, all_are, clause_in_range, groups_in_range, item_in_range}
+use Rattle.data_set_trees.specs.rules.Datapoints as datapoints
+use Rattle.data_set_trees.specs.rules.Datapoints.{datapoint_checked}
+use Rattle.data_set_trees.specs.rules.Hierarchies as hierarchies
+use Rattle.data_set_trees.specs.rules.Hierarchies.{checked_checked, computed_checked}
+use Rattle.literal_ranges.specs.Ranges.{if_given, all_are, clause_in_range, datapoint_in_range, groups_in_range, hierarchy_in_range, item_in_range}
 use Rattle.fitting_trees.proofs.Aggregates.{aggregate-typed, aggr-typed}
 use Rattle.fitting_trees.proofs.Windows.{window-typed, offset-typed}
 use Rattle.fitting_trees.proofs.Times.{time-typed, shift-typed, fill-typed}
 use Rattle.fitting_trees.proofs.Applied.{applied-fits, clause-fits}
 use Rattle.fitting_trees.proofs.Choices.{structures_of, kinds_in, choice-typed}
-use Rattle.fitting_trees.proofs.Clauses.{clause-typed, level_range, clause-range}
+use Rattle.fitting_trees.proofs.Analytic.{is_well, point-typed}
+use Rattle.fitting_trees.proofs.Clauses.{level_range, clause-range}
+use Rattle.fitting_trees.proofs.Rulesets.{checked-typed, computed-typed, datapoint-typed}
 use Rattle.fitting_trees.proofs.Components.{measures-there, member-is}
 use Rattle.fitting_trees.proofs.Lifted.{form_in_range, ScalarFits, SlotFits, answer-typed, measures-typed, pairs-typed}
 use Rattle.fitting_trees.proofs.Pairs.{both-there}
@@ -365,12 +382,18 @@ module _ (structures : Source → Option (List Component)) (among : Source → T
 
   -- ---- clauses
 
+  -- what a clause that is well typed makes of a data set that fits
+  point-fits : (k : PointClause) (place : Place) (d : DataSet) → SetFits d → is_well (frame_of d.structure) k ≡ true → SetFits (points.with_clause k place d)
+  point-fits (Alone c) place d h well = clause-fits structures among c place d h well
+  point-fits (Analytic w) place d h well =
+      applied-fits structures among (operator.Window w) place (d ∷ []) (map unlisted (rules.window_after w d.structure)) (All-cons SetFits d [] h (All-nil SetFits)) (record { operand = d.structure; one = refl; well = well; after_it = refl })
+
   on_points-fits : (written : Clause) → clause_in_range written ≡ true → (a : Operand) → IsFit a → Fits (on_points written a)
   on_points-fits written r (operand.Scalar t) h o e = cc
   on_points-fits written r (operand.DataSet d) h o e =
-      let set : CheckedClause → DataSet = λ c. with_clause c (place_of written) d in
-      let checked = gave (clause_checked written (frame_of d.structure)) (λ c. Ok (operand.DataSet (set c))) o e in
-      given-fits (operand.DataSet (set checked.0)) o (clause-fits structures among checked.0 (place_of written) d h (clause-typed (frame_of d.structure) written checked.0 r checked.1)) checked.2
+      let set : PointClause → DataSet = λ k. points.with_clause k (place_of written) d in
+      let checked = gave (point_checked written (frame_of d.structure)) (λ k. Ok (operand.DataSet (set k))) o e in
+      given-fits (operand.DataSet (set checked.0)) o (point-fits checked.0 (place_of written) d h (point-typed (frame_of d.structure) written checked.0 r checked.1)) checked.2
 
   -- ---- operators on one data set
 
@@ -406,6 +429,26 @@ module _ (structures : Source → Option (List Component)) (among : Source → T
 
   pub on_fill-fits : (span : Option FillSpan) (place : Place) → (a : Operand) → IsFit a → Fits (on_fill span place a)
   on_fill-fits span place = on_set-fits (fill_checked span place) operator.Time times.after place (λ s x e. record { operand = s; one = refl; well = fill-typed span place s x e; after_it = refl })
+
+  -- ---- uses of rulesets
+
+  pub on_datapoint-fits : (o : Option RowsOutput) (place : Place) (r : DatapointRules) → list_all datapoint_in_range r.rules ≡ true → (a : Operand) → IsFit a → Fits (on_datapoint o place r a)
+  on_datapoint-fits o place r ranged =
+      on_set-fits (datapoint_checked r o place) operator.Datapoint datapoints.after place (λ s x e. record { operand = s; one = refl; well = datapoint-typed r o place s x ranged e; after_it = refl })
+
+  pub on_hierarchy-fits : (c : Option (List ℕ)) (m : Option Mode) (i : Option HierarchyInput) (o : Option HierarchyOutput) (place : Place) (r : HierarchyRules) → list_all hierarchy_in_range r.rules ≡ true → (a : Operand) → IsFit a → Fits (on_hierarchy c m i o place r a)
+  on_hierarchy-fits c m i o place r ranged =
+      on_set-fits (computed_checked r c m i o place) operator.Hierarchy hierarchies.after place (λ s x e. record { operand = s; one = refl; well = computed-typed r c m place s ranged i o x e; after_it = refl })
+
+  pub on_check_hierarchy-fits : (c : Option (List ℕ)) (m : Option Mode) (i : Option CheckInput) (o : Option RowsOutput) (place : Place) (r : HierarchyRules) → list_all hierarchy_in_range r.rules ≡ true → (a : Operand) → IsFit a → Fits (on_check_hierarchy c m i o place r a)
+  on_check_hierarchy-fits c m i o place r ranged =
+      on_set-fits (checked_checked r c m i o place) operator.Hierarchy hierarchies.after place (λ s x e. record { operand = s; one = refl; well = checked-typed r c m place s ranged i o x e; after_it = refl })
+
+  -- with the ruleset that is meant
+  pub with_ruleset-fits : {R : Type 0} (found : Option R) (place : Place) (next : R → SetAnswer) → ((r : R) → found ≡ Some r → Fits (next r)) → Fits (with_ruleset found place next)
+  with_ruleset-fits found place next fit o e =
+      let r = gave (or_refused found UnknownComponent place) next o e in
+      fit r.0 (or-given found UnknownComponent place r.0 r.1) o r.2
 
   -- ---- any clause
 

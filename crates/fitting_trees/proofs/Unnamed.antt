@@ -26,7 +26,7 @@ use Rattle.data_set_trees.specs.declared.clauses.clause.CheckedSubItem.{CheckedS
 use Rattle.data_set_trees.specs.declared.clauses.clause.Target.{Target}
 use Rattle.data_set_trees.specs.declared.clauses.clause.Target.TheVariants.{Old, New}
 use Rattle.data_set_trees.specs.declared.clauses.frame.Frame.{Frame}
-use Rattle.data_set_trees.specs.clauses.Frames.{is_role, has_role, numbers_of, kept, by_role, added, changed_at}
+use Rattle.data_set_trees.specs.clauses.Frames.{frame_of, is_role, has_role, numbers_of, kept, by_role, added, changed_at}
 use Rattle.data_set_trees.specs.clauses.After.{made, put, with_item, calculated, always_stays, is_kept, is_left, with_rename, renamed, staying, with_measure, measured, measure_kind, unpivoted, after}
 use Rattle.data_set_trees.specs.clauses.Clauses.{passes_at, may_be_target, is_comparable, is_of_measure_kind, are_alike}
 use Rattle.data_set_trees.specs.clauses.WellTyped.{kinds_on, is_of, may_be_made, is_item, is_component, is_well_typed}
@@ -35,8 +35,28 @@ use Rattle.data_set_trees.proofs.clauses.Ordered.{part}
 use Rattle.data_set_trees.proofs.clauses.Parts.{left_from, picked_are}
 use Rattle.data_set_trees.specs.Components.{unlisted}
 use Rattle.data_set_trees.specs.Joins.{numbered}
+use Rattle.data_set_trees.specs.aggregates.Results.{with_numbers}
+use Rattle.data_set_trees.specs.declared.windows.analytic.Analytic.{Analytic as Operator}
+use Rattle.data_set_trees.specs.declared.windows.analytic.Analytic.TheVariants as analytic
+use Rattle.data_set_trees.specs.declared.windows.analytic.AnalyticItem.{AnalyticItem}
+use Rattle.data_set_trees.specs.declared.windows.analytic.AnalyticMeasure.{AnalyticMeasure}
+use Rattle.data_set_trees.specs.declared.windows.analytic.AnalyticValue.{AnalyticValue}
+use Rattle.data_set_trees.specs.declared.windows.analytic.AnalyticValue.TheVariants as value
+use Rattle.data_set_trees.specs.declared.windows.analytic.CheckedAnalytic.{CheckedAnalytic}
+use Rattle.data_set_trees.specs.declared.windows.analytic.CheckedWindow.{CheckedWindow}
+use Rattle.data_set_trees.specs.declared.windows.analytic.CheckedWindow.TheVariants as window
+use Rattle.data_set_trees.specs.declared.windows.analytic.OrderedBy.{OrderedBy}
+use Rattle.data_set_trees.specs.windows.Functions.{window_gives, window_takes}
+use Rattle.data_set_trees.specs.windows.Results as windows
+use Rattle.data_set_trees.specs.windows.Results.{as_item, made_by, unordered}
+use Rattle.data_set_trees.specs.windows.WellTyped as windows_typed
+use Rattle.data_set_trees.specs.windows.WellTyped.{are_parts, gives_of, is_analytic, is_value}
+use Rattle.expression_rules.specs.declared.point_clause.PointClause.{PointClause}
+use Rattle.expression_rules.specs.declared.point_clause.PointClause.TheVariants.{Alone, Analytic}
 use Rattle.expression_rules.specs.JoinClauses.{Placed, structure_before}
+use Rattle.expression_rules.specs.PointClauses as points
 use Rattle.data_set_trees.specs.checked.Operators.{unnamed}
+use Rattle.fitting_trees.proofs.Analytic.{is_well}
 
 -- a component of a result, without its name
 abbrev pub plain : Component → Component
@@ -233,7 +253,7 @@ with_measures_alike (i ∷ is) f g same = with_measures_alike is (with_measure f
 
 -- ---- a clause
 
-pub after_alike : (c : CheckedClause) (f g : Frame) → AreAlike f g → AreAlike (after c f) (after c g)
+after_alike : (c : CheckedClause) (f g : Frame) → AreAlike f g → AreAlike (after c f) (after c g)
 after_alike (clause.Filter condition) f g same = same
 after_alike (clause.Calc items) f g same = by_role_alike (calculated items f) (calculated items g) (calculated_alike items f g same)
 after_alike (clause.Keep numbers) f g same = kept_alike (is_kept numbers) (λ n c. ap (λ (b : Bool). b || list_any (nat_eq n) numbers) (stays_plain c)) f g same
@@ -281,7 +301,7 @@ alike_plain cs =
     ap (λ (k : Kind). list_all (is_of_measure_kind k) (map plain cs)) (measure_kind_plain cs)
     ∙ all_plain (is_of_measure_kind (measure_kind cs)) (λ c. λ i. not (same_role Measure c i) || is_kind (plain_kind c i) (measure_kind cs)) cs
 
-pub well_typed_alike : (c : CheckedClause) (f g : Frame) → AreAlike f g → is_well_typed f c ≡ is_well_typed g c
+well_typed_alike : (c : CheckedClause) (f g : Frame) → AreAlike f g → is_well_typed f c ≡ is_well_typed g c
 well_typed_alike (clause.Filter condition) f g same = of_alike kind.Truth f g same condition
 well_typed_alike (clause.Calc items) f g same = all_same (is_item f) (is_item g) (λ i. λ q. (target_alike f g same i.target q && may_be_made i.role) && of_alike i.kind f g same i.value q) items
 well_typed_alike (clause.Keep numbers) f g same = all_same (passes_at (λ c. not (always_stays c)) f) (passes_at (λ c. not (always_stays c)) g) (passes_alike (λ c. not (always_stays c)) (λ c. ap not (stays_plain c)) f g same) numbers
@@ -295,3 +315,60 @@ well_typed_alike (clause.Sub items) f g same =
     λ q. comparable q && identifiers q
 well_typed_alike (clause.Unpivot identifier measure) f g same = sym (alike_plain f.components) ∙ ap are_alike same ∙ alike_plain g.components
 well_typed_alike (clause.Measures items) f g same = all_same (λ (i : CheckedMeasure). is_of f i.kind i.value) (λ (i : CheckedMeasure). is_of g i.kind i.value) (λ i. of_alike i.kind f g same i.value) items
+
+-- ---- analytic operators
+
+picked_plain : (cs : List Component) → map plain (with_numbers cs (numbers_of Identifier cs ++ numbers_of Viral cs)) ≡ part Identifier (map plain cs) ++ part Viral (map plain cs)
+picked_plain cs =
+    ap (map plain) (filter_map-append (slice_get cs) (numbers_of Identifier cs) (numbers_of Viral cs) ∙ (λ q. picked_are (λ number. has_role Identifier) [] cs q ++ picked_are (λ number. has_role Viral) [] cs q))
+    ∙ map-append plain (part Identifier cs) (part Viral cs)
+    ∙ (λ q. part_plain Identifier cs q ++ part_plain Viral cs q)
+
+unordered_plain : (items : List AnalyticMeasure) (cs : List Component) → map plain (unordered items cs) ≡ (part Identifier (map plain cs) ++ part Viral (map plain cs)) ++ map plain (map made_by items)
+unordered_plain items cs =
+    map-append plain (with_numbers cs (numbers_of Identifier cs ++ numbers_of Viral cs)) (map made_by items) ∙ ap (λ (ds : List Component). ds ++ map plain (map made_by items)) (picked_plain cs)
+
+unordered_alike : (items : List AnalyticMeasure) (f g : Frame) → AreAlike f g → AreAlike (frame_of (unordered items f.components)) (frame_of (unordered items g.components))
+unordered_alike items f g same =
+    unordered_plain items f.components ∙ ap (λ (cs : List Component). (part Identifier cs ++ part Viral cs) ++ map plain (map made_by items)) same ∙ sym (unordered_plain items g.components)
+
+window_after_alike : (w : CheckedWindow) (f g : Frame) → AreAlike f g → AreAlike (windows.after w f) (windows.after w g)
+window_after_alike (window.Measures items) f g same = by_role_alike (frame_of (unordered items f.components)) (frame_of (unordered items g.components)) (unordered_alike items f g same)
+window_after_alike (window.Calc items) f g same = by_role_alike (calculated (map as_item items) f) (calculated (map as_item items) g) (calculated_alike (map as_item items) f g same)
+
+gives_plain : (takes : List Kind) (gives : Kind → Kind) (k : Kind) (c : Component) → gives_of takes gives k (plain c) ≡ gives_of takes gives k c
+gives_plain takes gives k c = ap (λ (own : Kind). option_map_or (λ given. is_kind (gives given) k) (agreed takes (Some own ∷ [])) false) (plain_kind c)
+
+kind_alike : (k : Kind) (a : Operator) (f g : Frame) → AreAlike f g → windows_typed.is_of_kind f k a ≡ windows_typed.is_of_kind g k a
+kind_alike k (analytic.Window function number from to) f g same =
+    passes_alike (gives_of (window_takes function) (window_gives function) k) (gives_plain (window_takes function) (window_gives function) k) f g same number
+kind_alike k (analytic.CountAll from to) f g same = refl
+kind_alike k (analytic.Offset function number offset) f g same = passes_alike (gives_of ANY (λ own. own) k) (gives_plain ANY (λ own. own) k) f g same number
+kind_alike k analytic.Rank f g same = refl
+
+analytic_alike : (k : Kind) (a : CheckedAnalytic) (f g : Frame) → AreAlike f g → is_analytic f k a ≡ is_analytic g k a
+analytic_alike k a f g same =
+    let partition = all_same (passes_at (has_role Identifier) f) (passes_at (has_role Identifier) g) (passes_alike (has_role Identifier) (same_role Identifier) f g same) a.parts.partition in
+    let order = all_same (λ (o : OrderedBy). is_component f o.component) (λ (o : OrderedBy). is_component g o.component) (λ o. passes_alike (λ c. true) (λ c. refl) f g same o.component) a.parts.order in
+    let kind = kind_alike k a.analytic f g same in
+    λ q. (partition q && order q) && kind q
+
+value_alike : (k : Kind) (v : AnalyticValue) (f g : Frame) → AreAlike f g → is_value f k v ≡ is_value g k v
+value_alike k (value.Scalar e) f g same = of_alike k f g same e
+value_alike k (value.Analytic a) f g same = analytic_alike k a f g same
+
+window_alike : (w : CheckedWindow) (f g : Frame) → AreAlike f g → windows_typed.is_well_typed f w ≡ windows_typed.is_well_typed g w
+window_alike (window.Measures items) f g same =
+    all_same (λ (i : AnalyticMeasure). is_analytic f i.kind i.value) (λ (i : AnalyticMeasure). is_analytic g i.kind i.value) (λ i. analytic_alike i.kind i.value f g same) items
+window_alike (window.Calc items) f g same =
+    all_same (windows_typed.is_item f) (windows_typed.is_item g) (λ (i : AnalyticItem). λ q. (target_alike f g same i.target q && may_be_made i.role) && value_alike i.kind i.value f g same q) items
+
+-- ---- clauses on points
+
+pub point_after_alike : (k : PointClause) (f g : Frame) → AreAlike f g → AreAlike (points.after k f) (points.after k g)
+point_after_alike (Alone c) f g same = after_alike c f g same
+point_after_alike (Analytic w) f g same = window_after_alike w f g same
+
+pub well_alike : (k : PointClause) (f g : Frame) → AreAlike f g → is_well f k ≡ is_well g k
+well_alike (Alone c) f g same = well_typed_alike c f g same
+well_alike (Analytic w) f g same = window_alike w f g same

@@ -54,13 +54,12 @@ among-passes p (m ∷ ms) n all among = by_test (nat_eq n m) refl (among-passes 
     by_test false is later i = later i
 
 -- parts are made by identifiers, where their names are those of identifiers
-partition-is : (s : List Component) (over : Over) → may_part (frame_of s) over ≡ true → list_all (passes_at (has_role Identifier) (frame_of s)) (parts_of (frame_of s) over).partition ≡ true
-partition-is s over may =
-    let frame = frame_of s in
+partition-is : (frame : Frame) (over : Over) → may_part frame over ≡ true → list_all (passes_at (has_role Identifier) frame) (parts_of frame over).partition ≡ true
+partition-is frame over may =
     let passes = passes_at (has_role Identifier) frame in
     let named = named_numbers frame (partition_names over) in
     let all = made-all (bare_number_of frame) passes (partition_names over) may in
-    numbers-all passes (λ number c. is_among named number) s (λ n c there among. among-passes passes named n all among)
+    numbers-all passes (λ number c. is_among named number) frame.components (λ n c there among. among-passes passes named n all among)
 
 -- a name that is known is that of a component that is there
 ordered-there : (frame : Frame) (o : OrderItem) → option_map_or (λ (b : OrderedBy). is_component frame b.component) (ordered_by frame o) true ≡ true
@@ -72,12 +71,11 @@ ordered-there frame o =
     by_number None there = refl
     by_number (Some n) there = left (is_component frame n) true there
 
-parts-are : (s : List Component) (over : Over) → may_part (frame_of s) over ≡ true → are_parts (frame_of s) (parts_of (frame_of s) over) ≡ true
-parts-are s over may =
-    let frame = frame_of s in
+pub parts-are : (frame : Frame) (over : Over) → may_part frame over ≡ true → are_parts frame (parts_of frame over) ≡ true
+parts-are frame over may =
     let there = λ (b : OrderedBy). is_component frame b.component in
     let ordered = made-all (ordered_by frame) there (order_items over) (always-all (λ (o : OrderItem). option_map_or there (ordered_by frame o) true) (ordered-there frame) (order_items over)) in
-    both (list_all (passes_at (has_role Identifier) frame) (parts_of frame over).partition) (list_all there (parts_of frame over).order) (partition-is s over may) ordered
+    both (list_all (passes_at (has_role Identifier) frame) (parts_of frame over).partition) (list_all there (parts_of frame over).order) (partition-is frame over may) ordered
 
 -- ---- measures
 
@@ -141,7 +139,7 @@ measures-typed place s over takes stated within items w well h =
     let fitting = right known (fits && (stated && (may && rest))) answer.0 in
     let parting = right stated (may && rest) (right fits (stated && (may && rest)) fitting) in
     subst (λ (v : CheckedWindow). is_window v s ≡ true) (answered (window.Measures items) w answer.1)
-    (well (left fits (stated && (may && rest)) fitting) (parts-are s over (left may rest parting)))
+    (well (left fits (stated && (may && rest)) fitting) (parts-are frame over (left may rest parting)))
 
 pub window-typed : (f : WindowFunction) (over : Over) (place : Place) (s : List Component) (w : CheckedWindow) → window_checked f over place s ≡ Ok w → is_window w s ≡ true
 window-typed f over place s w h =

@@ -1,8 +1,8 @@
 -- What clauses leave of a frame that fits inside a join fits there.
-use Rattle.std.proofs.Common.{◌≡◌, ◌≢◌, refl, ℕ, ◌≤◌, Bool, true, false, ◌&&◌, ◌||◌, List, [], ◌∷◌, ◌++◌, map, Option, Some, None, Ok, length, ap, sym, subst, ◌∙◌, arith, nat_le}
+use Rattle.std.proofs.Common.{◌≡◌, ◌≢◌, refl, ℕ, ◌≤◌, Bool, true, false, ◌&&◌, ◌||◌, List, [], ◌∷◌, ◌++◌, map, Option, Some, None, Ok, length, ap, sym, subst, ◌∙◌, arith, nat_le, if◌then◌else◌}
 use Rattle.std.specs.Prelude.{fold, slice_get, slice_set}
 use Rattle.std.specs.Option.{option_map_or}
-use Rattle.std.specs.List.{All, AllPairs, filter_map}
+use Rattle.std.specs.List.{All, AllPairs, filter_map, list_any}
 use Rattle.std.proofs.lemmas.Bool.Decides.{nat_tests}
 use Rattle.std.proofs.lemmas.List.{length-set}
 use Rattle.std.proofs.lemmas.List.Elements.{All-head, All-tail, All-append, All-weaker, filter_map-append}
@@ -10,6 +10,7 @@ use Rattle.vtl_values.specs.declared.kind.Kind.{Kind}
 use Rattle.vtl_values.specs.declared.kind.Kind.TheVariants as kind
 use Rattle.vtl_values.specs.declared.kind.Role.{Role}
 use Rattle.vtl_values.specs.declared.kind.Role.TheVariants.{Identifier, Measure, Attribute, Viral}
+use Rattle.vtl_values.specs.declared.place.Place.{Place}
 use Rattle.vtl_values.specs.declared.structure.Component.{Component}
 use Rattle.vtl_values.specs.Structures.{place_of as role_place}
 use Rattle.vtl_syntax.specs.declared.expr.Clause.{Clause, out-Clause}
@@ -33,17 +34,26 @@ use Rattle.data_set_trees.specs.declared.clauses.clause.Target.TheVariants.{Old,
 use Rattle.data_set_trees.specs.declared.clauses.frame.Frame.{Frame}
 use Rattle.data_set_trees.specs.clauses.Frames.{scope_of_frame, has_role, numbers_of, kept, by_role, changed_at}
 use Rattle.data_set_trees.specs.clauses.After.{made, put, with_item, calculated, with_rename, renamed, staying, measure_kind, unpivoted, is_kept, is_left, after}
-use Rattle.data_set_trees.specs.clauses.Clauses.{MOST_COMPONENTS, filter_typed, calc_typed, may_calculate, targets_differ, has_room, are_known, may_keep, may_drop, numbers_named, are_known_renames, renames_checked, renames_differ, are_known_items, subs_checked, are_comparable, are_identifiers, are_present, are_alike, has_measure, names_differ}
+use Rattle.data_set_trees.specs.clauses.Clauses.{IsItemOf, MOST_COMPONENTS, filter_typed, calc_typed, may_calculate, targets_differ, has_room, are_known, may_keep, may_drop, numbers_named, are_known_renames, renames_checked, renames_differ, are_known_items, subs_checked, are_comparable, are_identifiers, are_present, are_alike, has_measure, names_differ}
 use Rattle.data_set_trees.proofs.clauses.Changes.{All-changed, AllPairs-changed, All-added}
 use Rattle.data_set_trees.proofs.clauses.Made.{IsPlain, items_plain, met}
 use Rattle.data_set_trees.proofs.clauses.Ordered.{part}
 use Rattle.data_set_trees.proofs.clauses.Parts.{picked_are, left_from, left_all, left_pairs}
+use Rattle.data_set_trees.specs.declared.windows.analytic.AnalyticItem.{AnalyticItem}
+use Rattle.data_set_trees.specs.declared.windows.analytic.CheckedWindow.{CheckedWindow}
+use Rattle.data_set_trees.specs.declared.windows.analytic.CheckedWindow.TheVariants as window
+use Rattle.data_set_trees.specs.windows.Results as windows
+use Rattle.data_set_trees.specs.windows.Results.{as_item}
+use Rattle.data_set_trees.specs.windows.Windows.{calc_checked}
+use Rattle.expression_rules.specs.declared.point_clause.PointClause.{PointClause}
+use Rattle.expression_rules.specs.declared.point_clause.PointClause.TheVariants.{Alone, Analytic}
 use Rattle.expression_rules.specs.JoinClauses.{Placed, inside}
-use Rattle.expression_rules.specs.OnClauses.{items_checked, clause_step, clause_checked}
+use Rattle.expression_rules.specs.OnClauses.{items_checked, clause_step, clause_checked, all_analytic_checked, is_analytic, on_parts, alone, point_step, point_checked}
+use Rattle.expression_rules.specs.PointClauses as points
 use Rattle.data_set_parts.specs.Joins.{IsSound, IsOf}
 use Rattle.data_set_parts.proofs.Follows.{gave}
 use Rattle.join_typing.specs.Inside.{FitInside, EachFits, KeepsFitting}
-use Rattle.join_typing.proofs.Items.{made_of, items_are}
+use Rattle.join_typing.proofs.Items.{answered, made_of, items_are, plain_are}
 use Rattle.join_typing.proofs.Order.{InOrder, At, ordered_at, ordered_append, ordered, ordered_are, ordered_in_order, all_ordered, length-ordered, length-left}
 
 -- ---- components that pass
@@ -137,6 +147,15 @@ module _ (frame : Frame) (fit : FitInside frame.components) where
   abbrev Keeps : CheckedClause → Type 0
   Keeps c = FitInside (after c frame).components
 
+  calc_fits : (place : Place) (items : List CheckedItem) (c : CheckedClause) → All (IsItemOf frame) items → calc_typed place items frame ≡ Ok c → Keeps c
+  calc_fits place items c made h =
+      let may = may_calculate frame items in
+      let differ = targets_differ items in
+      let room = has_room (calculated items frame) in
+      let given = met place ((may, fault.WrongRole) ∷ (differ, fault.NameTwice) ∷ (room, fault.TooManyComponents) ∷ []) (clause.Calc items) c h in
+      let plain = items_plain frame items (left may (differ && (room && true)) given.0) made in
+      subst Keeps given.1 (by_role_fits (calculated items frame) (calculated_sound items frame plain fit.sound) (left room true (right differ (room && true) (right may (differ && (room && true)) given.0))))
+
   step_fits : (x : Clause-F Clause Expr Groups Item JoinOperand SubstrRange) (c : CheckedClause) → clause_step x frame ≡ Ok c → Keeps c
   step_fits (Clause-F.Filter condition place) c h =
       let value = gave (typed (scope_of_frame frame) Point condition) (filter_typed place) c h in
@@ -144,12 +163,7 @@ module _ (frame : Frame) (fit : FitInside frame.components) where
       subst Keeps given.1 fit
   step_fits (Clause-F.Calc items place) c h =
       let all = gave (items_checked frame items) (λ checked. calc_typed place checked frame) c h in
-      let may = may_calculate frame all.0 in
-      let differ = targets_differ all.0 in
-      let room = has_room (calculated all.0 frame) in
-      let given = met place ((may, fault.WrongRole) ∷ (differ, fault.NameTwice) ∷ (room, fault.TooManyComponents) ∷ []) (clause.Calc all.0) c all.2 in
-      let plain = items_plain frame all.0 (left may (differ && (room && true)) given.0) (items_are frame items all.0 all.1) in
-      subst Keeps given.1 (by_role_fits (calculated all.0 frame) (calculated_sound all.0 frame plain fit.sound) (left room true (right differ (room && true) (right may (differ && (room && true)) given.0))))
+      calc_fits place all.0 c (items_are frame items all.0 all.1) all.2
   step_fits (Clause-F.Keep names place) c h =
       let numbers = numbers_named frame names in
       let given = met place ((are_known frame names, fault.UnknownComponent) ∷ (may_keep frame numbers, fault.WrongRole) ∷ []) (clause.Keep numbers) c h in
@@ -177,19 +191,61 @@ module _ (frame : Frame) (fit : FitInside frame.components) where
       subst Keeps given.1 (by_role_fits whole (unpivoted_sound identifier measure frame fit.sound) has)
   step_fits (Clause-F.Aggr items groups place) c h = cc
 
-  pub clause_fits : (written : Clause) (c : CheckedClause) → clause_checked written frame ≡ Ok c → FitInside (after c frame).components
+  clause_fits : (written : Clause) (c : CheckedClause) → clause_checked written frame ≡ Ok c → FitInside (after c frame).components
   clause_fits written c h = step_fits (out-Clause written) c h
+
+  -- ---- a clause on points
+
+  abbrev Leaves : PointClause → Type 0
+  Leaves k = FitInside (points.after k frame).components
+
+  alone_fits : (written : Clause) (k : PointClause) → alone written frame ≡ Ok k → Leaves k
+  alone_fits written k h =
+      let checked = gave (clause_checked written frame) (λ c. Ok (Alone c)) k h in
+      subst Leaves (answered (Alone checked.0) k checked.2) (clause_fits written checked.0 checked.1)
+
+  calc_is : (place : Place) (cs : List CheckedItem) (c : CheckedClause) → calc_typed place cs frame ≡ Ok c → Keeps c → FitInside (by_role (calculated cs frame)).components
+  calc_is place cs c h own =
+      let given = met place ((may_calculate frame cs, fault.WrongRole) ∷ (targets_differ cs, fault.NameTwice) ∷ (has_room (calculated cs frame), fault.TooManyComponents) ∷ []) (clause.Calc cs) c h in
+      subst Keeps (sym given.1) own
+
+  parts_fit_on : (items : List Item) (place : Place) (k : PointClause) → on_parts items place frame ≡ Ok k → Leaves k
+  parts_fit_on items place k h =
+      let all = gave (all_analytic_checked frame items) (λ checked. calc_checked place checked frame >>= (λ w. Ok (Analytic w))) k h in
+      let plain = map as_item all.0 in
+      let whole = gave (calc_checked place all.0 frame) (λ w. Ok (Analytic w)) k all.2 in
+      let clause_of = gave (calc_typed place plain frame) (λ met. Ok (window.Calc all.0)) whole.0 whole.1 in
+      let own = calc_fits place plain clause_of.0 (plain_are frame items all.0 all.1) clause_of.1 in
+      subst Leaves (answered (Analytic whole.0) k whole.2)
+      (subst (λ (w : CheckedWindow). FitInside (windows.after w frame).components) (answered (window.Calc all.0) whole.0 clause_of.2) (calc_is place plain clause_of.0 clause_of.1 own))
+
+  point_step_fits : (x : Clause-F Clause Expr Groups Item JoinOperand SubstrRange) (written : Clause) (k : PointClause) → point_step x written frame ≡ Ok k → Leaves k
+  point_step_fits (Clause-F.Calc items place) written k h = by_test (list_any is_analytic items) h
+    where
+      by_test : (b : Bool) → (if b then on_parts items place frame else alone written frame) ≡ Ok k → Leaves k
+      by_test true is = parts_fit_on items place k is
+      by_test false is = alone_fits written k is
+  point_step_fits (Clause-F.Filter condition place) written k h = alone_fits written k h
+  point_step_fits (Clause-F.Keep names place) written k h = alone_fits written k h
+  point_step_fits (Clause-F.Drop names place) written k h = alone_fits written k h
+  point_step_fits (Clause-F.Rename renames place) written k h = alone_fits written k h
+  point_step_fits (Clause-F.Sub items place) written k h = alone_fits written k h
+  point_step_fits (Clause-F.Unpivot identifier measure place) written k h = alone_fits written k h
+  point_step_fits (Clause-F.Aggr items groups place) written k h = alone_fits written k h
+
+  pub point_fits : (written : Clause) (k : PointClause) → point_checked written frame ≡ Ok k → FitInside (points.after k frame).components
+  point_fits written k h = point_step_fits (out-Clause written) written k h
 
 -- ---- the clauses, one after the other
 
 pub keeps_fitting : KeepsFitting
 keeps_fitting [] frame checked fit h = let none : [] ≡ checked = cc in subst (λ (cs : List Placed). EachFits cs frame) none fit
 keeps_fitting (c ∷ cs) frame checked fit h =
-    let first = gave (clause_checked c frame) (λ k. inside cs (after k frame) >>= (λ others. Ok (record { clause = k; place = place_of c } ∷ others))) checked h in
+    let first = gave (point_checked c frame) (λ k. inside cs (points.after k frame) >>= (λ others. Ok (record { clause = k; place = place_of c } ∷ others))) checked h in
     let own : Placed = record { clause = first.0; place = place_of c } in
-    let others = gave (inside cs (after first.0 frame)) (λ others. Ok (own ∷ others)) checked first.2 in
+    let others = gave (inside cs (points.after first.0 frame)) (λ others. Ok (own ∷ others)) checked first.2 in
     let same : own ∷ others.0 ≡ checked = cc in
-    subst (λ (ps : List Placed). EachFits ps frame) same (fit, keeps_fitting cs (after first.0 frame) others.0 (clause_fits frame fit c first.0 first.1) others.1)
+    subst (λ (ps : List Placed). EachFits ps frame) same (fit, keeps_fitting cs (points.after first.0 frame) others.0 (point_fits frame fit c first.0 first.1) others.1)
 
 -- ---- the join
 

@@ -12,7 +12,7 @@ use Rattle.vtl_values.specs.declared.structure.Component.{Component}
 use Rattle.vtl_values.specs.Structures.{IsStructure}
 use Rattle.data_set_trees.specs.declared.clauses.frame.Frame.{Frame}
 use Rattle.data_set_trees.specs.clauses.Frames.{has_role}
-use Rattle.data_set_trees.specs.clauses.After.{after}
+use Rattle.expression_rules.specs.PointClauses.{after}
 use Rattle.data_set_trees.proofs.clauses.Parts.{pairs_head, pairs_tail}
 use Rattle.data_set_trees.specs.Components.{unlisted, names_differ}
 use Rattle.data_set_trees.specs.Joins.{numbered}

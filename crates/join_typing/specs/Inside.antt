@@ -4,9 +4,9 @@ use Rattle.vtl_values.specs.declared.structure.Component.{Component}
 use Rattle.vtl_values.specs.Structures.{place_of}
 use Rattle.vtl_syntax.specs.declared.expr.Clause.{Clause}
 use Rattle.data_set_trees.specs.declared.clauses.frame.Frame.{Frame}
-use Rattle.data_set_trees.specs.clauses.After.{after}
 use Rattle.data_set_trees.specs.clauses.Clauses.{MOST_COMPONENTS}
 use Rattle.expression_rules.specs.JoinClauses.{Placed, inside}
+use Rattle.expression_rules.specs.PointClauses.{after}
 use Rattle.data_set_parts.specs.Joins.{IsSound}
 
 -- components that are a structure but for their names, and not too many

@@ -4,18 +4,18 @@ ghost use Rattle.data_set_trees.specs.clauses.Clauses.{MOST_COMPONENTS};
 ghost use Rattle.data_set_trees.specs.Components as parts;
 ghost use Rattle.data_set_trees.specs.Joins as meant;
 ghost use Rattle.expression_rules.specs.JoinClauses as rules;
+ghost use Rattle.expression_rules.specs.PointClauses as clauses;
 ghost use Rattle.data_set_trees.specs.Trees as trees;
-ghost use Rattle.data_set_trees.specs.declared.tree.DataSetOperator.TheVariants as operator;
 ghost use Rattle.join_typing.specs.Inside.{FitInside, EachFits};
 ghost use Rattle.join_typing.specs.Joining as own;
 
 use crate::joining::Placed;
-use clause_typing::frame_after;
 use data_set_parts::components::unlisted;
 use data_set_parts::nodes::applied;
 use data_set_parts::results::listed_unlisted;
 use data_set_trees::clauses::Frame;
 use data_set_trees::{DataSet, DataSetOperator};
+use expression_rules::PointClause;
 use sqlite_items::Items;
 use std::alloc::{AllocError, Global};
 use vtl_values::{Component, Structure, Word};
@@ -97,6 +97,25 @@ pub(crate) fn structure_before(
     }
 }
 
+/// What a clause leaves of a frame. Or want of memory. It costs the size of the frame and of what the clause works out.
+pub fn frame_left(alloc: Global, clause: &PointClause, frame: Frame) -> Result<Frame, AllocError>
+    ensures { IfOk result (λ after. after ≡ clauses.after clause.now frame) }
+{
+    match clause {
+        PointClause::Alone(clause) => clause_typing::frame_after(alloc, clause, frame),
+        PointClause::Analytic(window) => window_typing::frame_after(alloc, window, frame),
+    }
+}
+
+fn operator_inside(clause: PointClause) -> DataSetOperator
+    ensures { result ≡ clauses.operator_inside clause }
+{
+    match clause {
+        PointClause::Alone(clause) => DataSetOperator::InJoin(clause),
+        PointClause::Analytic(window) => DataSetOperator::WindowInJoin(window),
+    }
+}
+
 fn take_clause(clauses: &mut Items<Placed>) -> Option<Placed>
     ensures { MatchOption result ((clauses.old ≡ []) × (clauses.new ≡ [])) (λ first. clauses.old ≡ first ∷ clauses.new) }
 {
@@ -113,18 +132,12 @@ fn in_join(
     set: DataSet,
     structure: Structure,
 ) -> Result<DataSet, AllocError>
-    ensures { IfOk result (λ after. after ≡ trees.applied (operator.InJoin placed.clause) placed.place (set ∷ []) structure) }
+    ensures { IfOk result (λ after. after ≡ trees.applied (clauses.operator_inside placed.clause) placed.place (set ∷ []) structure) }
 {
     let Placed { clause, place } = placed;
     let mut sets = Items::new(alloc);
     sets.push(set)?;
-    applied(
-        alloc,
-        DataSetOperator::InJoin(clause),
-        place,
-        sets,
-        structure,
-    )
+    applied(alloc, operator_inside(clause), place, sets, structure)
 }
 
 /// The clauses on a data set of a join whose frame is this one. Or want of memory.
@@ -139,7 +152,7 @@ pub(crate) fn with_clauses(
     ensures { IfOk result (λ after. after ≡ rules.with_clauses (map own.placed clauses) frame set) }
 {
     while let Some(placed) = take_clause(&mut clauses) {
-        frame = frame_after(alloc, &placed.clause, frame)?;
+        frame = frame_left(alloc, &placed.clause, frame)?;
         let structure = structure_before(alloc, clauses.as_slice(), &frame)?;
         set = in_join(alloc, placed, set, structure)?;
     }

@@ -1,6 +1,7 @@
 // A join on its way.
 use data_set_trees::DataSet;
-use data_set_trees::clauses::{CheckedClause, Frame};
+use data_set_trees::clauses::Frame;
+use expression_rules::PointClause;
 use sqlite_items::Items;
 use vtl_syntax::words::JoinFunction;
 use vtl_values::Place;
@@ -18,6 +19,6 @@ pub struct Joining {
 /// A clause inside, checked, at the place of its word.
 #[derive(Drop)]
 pub struct Placed {
-    pub clause: CheckedClause,
+    pub clause: PointClause,
     pub place: Place,
 }

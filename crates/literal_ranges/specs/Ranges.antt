@@ -1,5 +1,5 @@
 -- Expressions whose literals are in range (docs/language.md, "Values").
-use Rattle.std.specs.Prelude.{Bool, true, ◌&&◌, List, Option, Some, None}
+use Rattle.std.specs.Prelude.{Bool, true, ◌&&◌, List, Option, Some, None, option_map}
 use Rattle.std.specs.List.{list_all}
 use Rattle.vtl_syntax.specs.declared.expr.Clause.{Clause, fold-Clause}
 use Rattle.vtl_syntax.specs.declared.expr.Clause.TheOpen.{Clause-F, Expr-F, Groups-F, Item-F, JoinOperand-F, SubstrRange-F}
@@ -8,6 +8,10 @@ use Rattle.vtl_syntax.specs.declared.expr.Groups.{Groups, fold-Groups}
 use Rattle.vtl_syntax.specs.declared.expr.Item.{Item, fold-Item}
 use Rattle.vtl_syntax.specs.declared.expr.JoinOperand.{JoinOperand, fold-JoinOperand}
 use Rattle.vtl_syntax.specs.declared.expr.SubstrRange.{SubstrRange, fold-SubstrRange}
+use Rattle.vtl_syntax.specs.declared.ruleset.DatapointRule.{DatapointRule}
+use Rattle.vtl_syntax.specs.declared.ruleset.HierarchyRule.{HierarchyRule}
+use Rattle.vtl_syntax.specs.declared.ruleset.Ruleset.{Ruleset}
+use Rattle.vtl_syntax.specs.declared.ruleset.Ruleset.TheVariants.{Datapoint, Hierarchy}
 use Rattle.scalar_trees.specs.WellTyped.{in_range}
 
 -- a part that may be left out
@@ -47,6 +51,9 @@ range_step (Expr-F.Join f a b others filter calc keep rename place) = (a && (b &
 range_step (Expr-F.Aggregate f a groups place) = a && if_given groups
 range_step (Expr-F.Window f a over place) = a
 range_step (Expr-F.Offset f a offset over place) = a
+range_step (Expr-F.CheckDatapoint a rules rules_place output place) = a
+range_step (Expr-F.Hierarchy a rules rules_place component mode input output place) = a
+range_step (Expr-F.CheckHierarchy a rules rules_place component mode input output place) = a
 range_step (Expr-F.Check a code level imbalance output place) = a && if_given imbalance
 range_step (Expr-F.Time f a place) = a
 range_step (Expr-F.Timeshift a shift place) = a
@@ -94,3 +101,20 @@ operand_in_range = fold-JoinOperand Bool Bool Bool Bool Bool Bool clause_range_s
 -- those in `, start, length`
 abbrev pub part_in_range : SubstrRange → Bool
 part_in_range = fold-SubstrRange Bool Bool Bool Bool Bool Bool clause_range_step range_step groups_range_step item_range_step operand_range_step part_range_step
+
+-- ---- rulesets
+
+-- those in a condition, if there is one
+abbrev pub condition_in_range : Option Expr → Bool
+condition_in_range condition = if_given (option_map literals_in_range condition)
+
+abbrev pub datapoint_in_range : DatapointRule → Bool
+datapoint_in_range r = condition_in_range r.condition && literals_in_range r.expr
+
+abbrev pub hierarchy_in_range : HierarchyRule → Bool
+hierarchy_in_range r = condition_in_range r.condition
+
+-- those in all rules of a ruleset
+abbrev pub ruleset_in_range : Ruleset → Bool
+ruleset_in_range (Datapoint r) = list_all datapoint_in_range r.rules
+ruleset_in_range (Hierarchy r) = list_all hierarchy_in_range r.rules

@@ -107,9 +107,9 @@ pub fn see_literals(tree: &Expr)
         Expr::CountAll { .. } => (),
         Expr::Offset { operand, .. } => see_literals(operand.get()),
         Expr::Rank { .. } => (),
-        Expr::CheckDatapoint { .. } => (),
-        Expr::Hierarchy { .. } => (),
-        Expr::CheckHierarchy { .. } => (),
+        Expr::CheckDatapoint { operand, .. } => see_literals(operand.get()),
+        Expr::Hierarchy { operand, .. } => see_literals(operand.get()),
+        Expr::CheckHierarchy { operand, .. } => see_literals(operand.get()),
         Expr::Check {
             operand,
             imbalance,

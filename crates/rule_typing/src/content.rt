@@ -27,7 +27,8 @@ use vtl_syntax::ruleset::{HierarchyRules, Variable};
 use vtl_syntax::words::Mode;
 use vtl_values::{Component, Kind, Place, Role, Word};
 
-fn variables_of(rules: &HierarchyRules) -> &[Variable]
+/// The variables of a hierarchical ruleset's conditions.
+pub fn variables_of(rules: &HierarchyRules) -> &[Variable]
     ensures { result.now ≡ meant.variables_of rules.now }
 {
     match &rules.variables {

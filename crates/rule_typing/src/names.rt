@@ -22,7 +22,7 @@ pub(crate) fn are_known(frame: &Frame, variables: &[Variable]) -> bool
 }
 
 /// What a variable is called in rules: its alias, if it has one.
-fn name_in_rules(variable: &Variable) -> &Word
+pub fn name_in_rules(variable: &Variable) -> &Word
     ensures { result.now ≡ meant.name_in_rules variable.now }
 {
     match &variable.alias {

@@ -14,11 +14,7 @@ fn number_text(alloc: Global, number: u64) -> Result<Word, AllocError>
 }
 
 /// What the rule at this place is called, or want of memory.
-pub(crate) fn rule_name(
-    alloc: Global,
-    number: u64,
-    stated: &Option<Word>,
-) -> Result<Word, AllocError>
+pub fn rule_name(alloc: Global, number: u64, stated: &Option<Word>) -> Result<Word, AllocError>
     ensures { IfOk result (λ name. name ≡ meant.rule_name number stated.now) }
 {
     match stated {

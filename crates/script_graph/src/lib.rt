@@ -18,5 +18,6 @@ pub mod sort;
 mod uses;
 
 pub use fault::{GraphFault, GraphStop, PlacedFault};
+pub use ordering::in_order;
 pub use script_order::{ScriptOrder, order};
 pub use sort::NameSort;

@@ -50,11 +50,9 @@ fn unmarked(alloc: Global, count: usize) -> Result<Items<bool>, AllocError>
     Ok(marks)
 }
 
-/// The order, or none where the graph has a cycle.
-pub(crate) fn in_order(
-    alloc: Global,
-    graph: &[Items<usize>],
-) -> Result<Option<Vec<u64>>, AllocError>
+/// An order in which each number comes after those to which it leads, and of several that could come next the first; none
+/// exactly where the graph has a cycle. Or want of memory. For each number it takes a pass over those that haven't come yet.
+pub fn in_order(alloc: Global, graph: &[Items<usize>]) -> Result<Option<Vec<u64>>, AllocError>
     requires { meant.LeadsWithin graph.now }
     ensures order { IfOk result (λ order. IfSome order (λ numbers. meant.IsOrder graph.now numbers.items)) }
     ensures none { IfOk result (λ order. IfNone order (HasNoCycle graph.now → ⊥)) }

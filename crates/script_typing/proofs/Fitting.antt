@@ -1,5 +1,6 @@
 -- The trees of a typed script fit, and its order has operands first.
 use Rattle.std.proofs.Common.{◌≡◌, inl, inr, ℕ, zero, suc, ◌<◌, ◌≤◌, Bool, true, false, List, [], ◌∷◌, ◌++◌, Option, Some, None, Ok, Err, if◌then◌else◌, nat_eq, length, slice_get, All, Contains, refl, sym, ap, ap₂, ◌∙◌, subst, arith, unwrap_or}
+use Rattle.std.specs.List.{list_all}
 use Rattle.std.specs.Option.{option_map}
 use Rattle.std.specs.Cmp.Lexicographic.{pointwise}
 use Rattle.std.proofs.lemmas.List.{length-replicate}
@@ -11,6 +12,7 @@ use Rattle.vtl_values.specs.declared.place.Place.{Place}
 use Rattle.vtl_values.specs.declared.structure.Component.{Component}
 use Rattle.vtl_values.specs.Structures.{NamedStructures, number_of, structure_of}
 use Rattle.vtl_syntax.specs.declared.expr.Expr.{Expr}
+use Rattle.vtl_syntax.specs.declared.ruleset.Ruleset.{Ruleset}
 use Rattle.vtl_syntax.specs.declared.script.Statement.{Statement}
 use Rattle.shortest_cycles.specs.Paths.{Graph}
 use Rattle.script_graph.specs.Orders.{IsOrder as IsGraphOrder}
@@ -31,7 +33,7 @@ use Rattle.data_set_trees.specs.checked.Operators.{TakesOperands}
 use Rattle.data_set_trees.specs.checked.Scripts.{Script, IsOneOf, FollowOperands, FitsStatement, IsTypedScript, names_in, names_of, structure_of_source}
 use Rattle.data_set_trees.specs.checked.Typing.{Fits}
 use Rattle.fitting_trees.specs.Fitting.{IsFitting}
-use Rattle.literal_ranges.specs.Ranges.{literals_in_range}
+use Rattle.literal_ranges.specs.Ranges.{literals_in_range, ruleset_in_range}
 use Rattle.statement_typing.specs.Names.{from, input_from, input_of}
 use Rattle.script_typing.specs.declared.state.State.{State}
 use Rattle.script_typing.specs.declared.state.State.TheVariants.{Idle, Has, Fails}
@@ -44,8 +46,8 @@ use Rattle.script_typing.proofs.Progress.{HasSet, NoFault, Meets, kept, next, me
 abbrev pub TypingFits : Type 1
 TypingFits =
     (structures : Source → Option (List Component)) (among : Source → Type 0) (naming : Naming) (e : Expr) (d : DataSet) →
-    ((name : List ℕ) (n : DataSet) → naming name ≡ Some n → IsFitting structures among n) →
-    literals_in_range e ≡ true →
+    ((name : List ℕ) (n : DataSet) → naming.data_set name ≡ Some n → IsFitting structures among n) →
+    list_all ruleset_in_range naming.rulesets ≡ true → literals_in_range e ≡ true →
     typed naming e ≡ Ok (operand.DataSet d) → IsFitting structures among d
 
 -- the literals of each statement are in range
@@ -119,7 +121,7 @@ module _ (script : Script) where
 
   -- each name stands for what fits, and names no result but these
   abbrev FitNames : List ℕ → Naming → Type 0
-  FitNames done naming = (name : List ℕ) (n : DataSet) → naming name ≡ Some n → IsFitting structures (IsOneOf done) n
+  FitNames done naming = (name : List ℕ) (n : DataSet) → naming.data_set name ≡ Some n → IsFitting structures (IsOneOf done) n
 
   name_fits : (among : Source → Type 0) (s : Source) (structure : List Component) → structures s ≡ Some structure → among s → IsFitting structures among (from s structure)
   name_fits among s structure at one = record {
@@ -135,8 +137,8 @@ module _ (script : Script) where
       let at : structure_of script.inputs name ≡ option_map (λ e. e.1) (slice_get script.inputs k) = (Found-position (pointwise nat_eq name) script.inputs k number).value ∙ slice_get-map (λ (e : List ℕ × List Component). e.1) script.inputs k in
       subst (IsFitting structures (IsOneOf done)) (same_some (from (source.Input k) c) n is) (name_fits (IsOneOf done) (source.Input k) c (sym at ∙ structure) tt)
 
-  inputs_fit : (done : List ℕ) → FitNames done (input_of script.inputs)
-  inputs_fit done name n is = input_fits done name n (number_of script.inputs name) (structure_of script.inputs name) refl refl is
+  inputs_fit : (done : List ℕ) (rulesets : List Ruleset) → FitNames done (record { data_set = input_of script.inputs; rulesets = rulesets })
+  inputs_fit done rulesets name n is = input_fits done name n (number_of script.inputs name) (structure_of script.inputs name) refl refl is
 
   next_name : (done : List ℕ) (i : ℕ) (d : DataSet) (b : Bool) (o : Option DataSet) (n : DataSet) → structures (source.Result i) ≡ Some d.structure → (o ≡ Some n → IsFitting structures (IsOneOf done) n) → (if b then Some (from (source.Result i) d.structure) else o) ≡ Some n → IsFitting structures (IsOneOf (done ++ i ∷ [])) n
   next_name done i d true o n at old is = subst (IsFitting structures (IsOneOf (done ++ i ∷ []))) (same_some (from (source.Result i) d.structure) n is) (name_fits (IsOneOf (done ++ i ∷ [])) (source.Result i) d.structure at (Contains-push done i))
@@ -151,9 +153,9 @@ module _ (script : Script) where
       pub follows : FollowOperands script done rest
       pub fit : (k : ℕ) (d : DataSet) → Contains rest k → slice_get end k ≡ Some (Has d) → Fits TakesOperands structures (expression_of d.tree) d.structure
 
-    fitted : (done rest : List ℕ) (s : SoFar) → Meets g ts done rest s → end ≡ (after_all g ts rest s).states → FitNames done s.naming → Fitted done rest
-    fitted done [] s m is names = record { follows = tt; fit = λ k d c h. absurd (let less = c.1 in omega arith) }
-    fitted done (i ∷ is) s m ends names =
+    fitted : (done rest : List ℕ) (s : SoFar) → Meets g ts done rest s → end ≡ (after_all g ts rest s).states → FitNames done s.naming → list_all ruleset_in_range s.naming.rulesets ≡ true → Fitted done rest
+    fitted done [] s m is names rules = record { follows = tt; fit = λ k d c h. absurd (let less = c.1 in omega arith) }
+    fitted done (i ∷ is) s m ends names rules =
         let n = next g ts done is i s m (subst NoFault ends none) in
         let after = comes_to i n.t (Has n.d) s in
         let ends' : end ≡ (after_all g ts is after).states = ends ∙ ap (λ (z : SoFar). (after_all g ts is z).states) n.is in
@@ -162,8 +164,8 @@ module _ (script : Script) where
         let stays : slice_get end i ≡ slice_get after.states i = ap (λ (xs : List State). slice_get xs i) ends' ∙ kept g ts is i after (not_after done i is m.once) in
         let has : slice_get end i ≡ Some (Has n.d) = stays ∙ set-same s.states i (Has n.d) less in
         let at : slice_get script.statements i ≡ Some (with_set n.t n.d) = told i n.t n.d n.at has in
-        let fit = law structures (IsOneOf done) s.naming n.t.expr n.d names (ranges i n.t n.at) (typed_is (typed s.naming n.t.expr) n.t.place n.d n.typed) in
-        let rest = fitted (done ++ i ∷ []) is after m' ends' (λ name x e. next_name done i n.d (same_text n.t.name name) (s.naming name) x (ap (option_map (λ (c : CheckedStatement). c.structure)) at) (names name x) e) in
+        let fit = law structures (IsOneOf done) s.naming n.t.expr n.d names rules (ranges i n.t n.at) (typed_is (typed s.naming n.t.expr) n.t.place n.d n.typed) in
+        let rest = fitted (done ++ i ∷ []) is after m' ends' (λ name x e. next_name done i n.d (same_text n.t.name name) (s.naming.data_set name) x (ap (option_map (λ (c : CheckedStatement). c.structure)) at) (names name x) e) rules in
         record {
           follows = (subst (λ (ns : List Source). All (IsOneOf done) ns) (sym (names-there script i (with_set n.t n.d) at)) fit.named, rest.follows);
           fit = λ k d c h. elim (Contains-append_cases (i ∷ []) is k c) [
@@ -177,14 +179,14 @@ module _ (script : Script) where
 
 -- ---- whole scripts
 
-module _ (law : TypingFits) (inputs : NamedStructures) (g : Graph) (ts : List Statement) (order : List ℕ) where
+module _ (law : TypingFits) (inputs : NamedStructures) (rulesets : List Ruleset) (g : Graph) (ts : List Statement) (order : List ℕ) where
   abbrev end : List State
-  end = states_after inputs g ts order
+  end = states_after inputs rulesets g ts order
 
   abbrev script : Script
   script = record { inputs = inputs; statements = with_sets ts end; order = order }
 
-  begins : IsGraphOrder g order → length g ≡ length ts → Meets g ts [] order (start inputs (length ts))
+  begins : IsGraphOrder g order → length g ≡ length ts → Meets g ts [] order (start inputs rulesets (length ts))
   begins o all = record {
     once = o.once;
     below = subst (λ (n : ℕ). All (λ i. i < n) order) all o.below;
@@ -193,14 +195,14 @@ module _ (law : TypingFits) (inputs : NamedStructures) (g : Graph) (ts : List St
     have = λ k c. absurd (let less = c.1 in omega arith);
   }
 
-  pub fits_all : IsGraphOrder g order → length g ≡ length ts → length ts ≤ 256 → AreInRange ts → first_refusal end ≡ None → IsTypedScript script
-  fits_all o all few ranges none =
+  pub fits_all : IsGraphOrder g order → length g ≡ length ts → length ts ≤ 256 → AreInRange ts → list_all ruleset_in_range rulesets ≡ true → first_refusal end ≡ None → IsTypedScript script
+  fits_all o all few ranges rules none =
       let m = begins o all in
       let faultless : NoFault end = no_fault end none in
       let among : (k : ℕ) → k < length ts → Contains order k = λ k less. has-Contains order k (order_has g order o k (subst (λ (n : ℕ). k < n) (sym all) less)) in
-      let have : (k : ℕ) → k < length ts → HasSet end k = λ k less. all_have g ts [] order (start inputs (length ts)) m faultless k (among k less) in
+      let have : (k : ℕ) → k < length ts → HasSet end k = λ k less. all_have g ts [] order (start inputs rulesets (length ts)) m faultless k (among k less) in
       let long : length (with_sets ts end) ≡ length ts = sets-long ts end have in
-      let done = fitted script law g ts ranges end faultless (sets-at ts end have) [] order (start inputs (length ts)) m refl (inputs_fit script []) in
+      let done = fitted script law g ts ranges end faultless (sets-at ts end have) [] order (start inputs rulesets (length ts)) m refl (inputs_fit script [] rulesets) rules in
       record {
         few = subst (λ (n : ℕ). n ≤ 256) (sym long) few;
         typed = λ k other less.

@@ -4,6 +4,7 @@ use Rattle.std.specs.List.{list_all}
 use Rattle.vtl_values.specs.Texts.{same_text}
 use Rattle.vtl_values.specs.declared.place.Place.{Place}
 use Rattle.vtl_values.specs.Structures.{NamedStructures}
+use Rattle.vtl_syntax.specs.declared.ruleset.Ruleset.{Ruleset}
 use Rattle.vtl_syntax.specs.declared.script.Statement.{Statement}
 use Rattle.shortest_cycles.specs.Paths.{Graph, targets_of}
 use Rattle.scalar_trees.specs.declared.typing.stop.Fault.TheVariants.{WrongStructure}
@@ -52,9 +53,9 @@ all_have_sets states numbers = list_all (λ k. has_set (slice_get states k)) num
 
 -- the name of statement i stands for its result, where that has a data set
 abbrev pub with_result : ℕ → List ℕ → State → Naming → Naming
-with_result i name Idle naming other = naming other
-with_result i name (Has d) naming other = if same_text name other then Some (from (source.Result i) d.structure) else naming other
-with_result i name (Fails r) naming other = naming other
+with_result i name Idle naming = naming
+with_result i name (Has d) naming = record naming { data_set = λ other. if same_text name other then Some (from (source.Result i) d.structure) else naming.data_set other }
+with_result i name (Fails r) naming = naming
 
 -- statement i comes to this
 abbrev pub comes_to : ℕ → Statement → State → SoFar → SoFar
@@ -77,6 +78,6 @@ after_all g ts (i ∷ is) s = after_all g ts is (after_number g i (slice_get ts 
 abbrev pub all_idle : ℕ → List State
 all_idle n = replicate n Idle
 
--- before the first of so many, names stand for inputs
-abbrev pub start : NamedStructures → ℕ → SoFar
-start inputs n = record { naming = input_of inputs; states = all_idle n }
+-- before the first of so many, names stand for inputs; these are the rulesets
+abbrev pub start : NamedStructures → List Ruleset → ℕ → SoFar
+start inputs rulesets n = record { naming = record { data_set = input_of inputs; rulesets = rulesets }; states = all_idle n }

@@ -1,7 +1,7 @@
 //! The structures of a script's statements, or the script's first fault.
 //!
-//! It stands on `script_graph` for the order of the statements and for what each uses, on `statement_typing` for
-//! expressions, on `data_set_trees::checked` for typed scripts, and on `fitting_trees` and `literal_ranges`, by which
+//! It stands on `script_graph` for the order of the statements and for what each uses, on `ruleset_faults` for what is wrong
+//! with rulesets by themselves, on `statement_typing` for expressions, on `data_set_trees::checked` for typed scripts, and on `fitting_trees` and `literal_ranges`, by which
 //! what typing gives fits. Statements are typed in that order. One that uses the result of a statement that has no data
 //! set is passed over, and the fault that is told is that of the first statement of the script that has one. `typing`
 //! types one statement after another, and `script` makes a typed script of what they come to.

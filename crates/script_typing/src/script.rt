@@ -1,7 +1,8 @@
 // A script with its structures worked out.
 ghost use Rattle.std.specs.Prelude.{◌≡◌, ◌≤◌, ◌∷◌, [], true, None, Ok, All, length, reverse, IfOk, IfErr, MatchOption};
 ghost use Rattle.vtl_syntax.specs.declared.script.Statement.{Statement as Statements};
-ghost use Rattle.script_graph.specs.Faults.{first_fault};
+ghost use Rattle.script_graph.specs.Faults.{first_fault, graph_of};
+ghost use Rattle.script_graph.specs.Orders.{IsOrder, order_of};
 ghost use Rattle.literal_ranges.specs.Ranges.{literals_in_range};
 ghost use Rattle.script_typing.specs.Scripts as meant;
 
@@ -10,7 +11,8 @@ use crate::stop::ScriptStop;
 use crate::typing::states_of;
 use data_set_trees::DataSet;
 use data_set_trees::checked::{CheckedStatement, TypedScript};
-use literal_ranges::see_literals;
+use literal_ranges::{see_literals, see_rulesets};
+use ruleset_faults::check_rulesets;
 use scalar_trees::typing::Refusal;
 use script_graph::{ScriptOrder, order};
 use sqlite_items::Items;
@@ -90,16 +92,53 @@ fn see_statements(statements: &[Statement])
     }
 }
 
+/// The script with its structures worked out in this order; or the fault of types of the first statement that has one, or
+/// want of memory.
+fn typed_in_order(
+    alloc: Global,
+    script: &Script,
+    structures: Structures,
+    ordered: ScriptOrder,
+) -> Result<TypedScript, ScriptStop>
+    requires few { length script.now.statements ≤ 256 }
+    requires order { IsOrder (graph_of script.now structures) ordered.order.items }
+    requires value { ordered.order.items ≡ order_of (graph_of script.now structures) }
+    requires uses { ordered.uses ≡ graph_of script.now structures }
+    ensures ok { IfOk result (λ typed. meant.statements_typed structures script.now ≡ Ok typed) }
+    ensures inputs { IfOk result (λ typed. typed.inputs ≡ structures) }
+    ensures err { IfErr result (meant.IsStatementStop structures script.now) }
+{
+    let ScriptOrder { order, uses } = ordered;
+    let statements = script.statements.as_slice();
+    let rulesets = script.rulesets.as_slice();
+    let states = states_of(
+        alloc,
+        &structures,
+        rulesets,
+        statements,
+        uses.as_slice(),
+        order.as_slice(),
+    )?;
+    if let Some(refusal) = first_refusal(states.as_slice()) {
+        return Err(ScriptStop::Refused(refusal));
+    }
+    let typed = with_sets(alloc, statements, states)?;
+    see_statements(statements);
+    see_rulesets(rulesets);
+    Ok(TypedScript::of(structures, typed, Items::from_vec(order)))
+}
+
 /// The script with its structures worked out, over inputs of these structures. Its order is that of its graph.
 ///
 /// # Errors
-/// The first fault of its names and uses; where there is none, the fault of types of the first statement of the script that
-/// has one. A statement has none of its own where it uses the result of one without a data set. A statement whose
-/// expression is a scalar is refused as `WrongStructure` at its place. Each is told exactly where there is one; else want
-/// of memory alone.
+/// The first fault of its names and uses; where there is none, the first fault of the first ruleset that has one by itself;
+/// and else the fault of types of the first statement of the script that has one. A statement has none of its own where it
+/// uses the result of one without a data set. A statement whose expression is a scalar is refused as `WrongStructure` at its
+/// place. Each is told exactly where there is one; else want of memory alone.
 ///
 /// # Costs
-/// Each expression is typed once, and its literals are looked at once more.
+/// Each expression is typed once, and its literals are looked at once more; those of a ruleset are looked at once, and typed
+/// once for each use.
 pub fn check_script(
     alloc: Global,
     script: &Script,
@@ -111,19 +150,7 @@ pub fn check_script(
     ensures inputs { IfOk result (λ typed. typed.inputs ≡ structures) }
     ensures err { IfErr result (meant.IsStop structures script.now) }
 {
-    let ScriptOrder { order, uses } = order(alloc, script, &structures)?;
-    let statements = script.statements.as_slice();
-    let states = states_of(
-        alloc,
-        &structures,
-        statements,
-        uses.as_slice(),
-        order.as_slice(),
-    )?;
-    if let Some(refusal) = first_refusal(states.as_slice()) {
-        return Err(ScriptStop::Refused(refusal));
-    }
-    let typed = with_sets(alloc, statements, states)?;
-    see_statements(statements);
-    Ok(TypedScript::of(structures, typed, Items::from_vec(order)))
+    let ordered = order(alloc, script, &structures)?;
+    check_rulesets(alloc, script.rulesets.as_slice())?;
+    typed_in_order(alloc, script, structures, ordered)
 }

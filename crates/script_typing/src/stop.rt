@@ -1,9 +1,9 @@
 // Why a script isn't typed.
 ghost use Rattle.std.specs.Prelude.{◌≡◌};
 ghost use Rattle.script_typing.specs.declared.stop.ScriptStop.TheVariants.{Memory};
-ghost use Rattle.script_typing.specs.Stops.{of_graph};
+ghost use Rattle.script_typing.specs.Stops.{of_graph, of_typing};
 
-use scalar_trees::typing::Refusal;
+use scalar_trees::typing::{Refusal, TypeStop};
 use script_graph::{GraphStop, PlacedFault};
 use std::alloc::AllocError;
 
@@ -12,7 +12,8 @@ use std::alloc::AllocError;
 pub enum ScriptStop {
     /// the first fault of its names and uses
     Graph(PlacedFault),
-    /// the fault of types of the first statement that has one; there is none of names and uses
+    /// the first fault of the first ruleset that has one by itself, and else that of types of the first statement that has
+    /// one; there is none of names and uses
     Refused(Refusal),
     /// want of memory
     Memory,
@@ -25,6 +26,17 @@ impl From<GraphStop> for ScriptStop {
         match stop {
             GraphStop::Fault(placed) => ScriptStop::Graph(placed),
             GraphStop::Memory => ScriptStop::Memory,
+        }
+    }
+}
+
+impl From<TypeStop> for ScriptStop {
+    ghost from_gives = { λ typing stop. stop ≡ of_typing typing };
+
+    fn from(stop: TypeStop) -> Self {
+        match stop {
+            TypeStop::Refused(refusal) => ScriptStop::Refused(refusal),
+            TypeStop::Memory => ScriptStop::Memory,
         }
     }
 }

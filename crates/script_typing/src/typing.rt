@@ -12,7 +12,7 @@ use shortest_cycles::targets_of;
 use sqlite_items::{Items, at};
 use statement_typing::{Names, check_expression};
 use std::alloc::{AllocError, Global};
-use vtl_syntax::Statement;
+use vtl_syntax::{Ruleset, Statement};
 use vtl_values::{Structures, Word};
 
 /// How far the typing of a script has come: what names stand for, and what each statement has come to.
@@ -92,13 +92,14 @@ impl<'a> Typing<'a> {
     fn new(
         alloc: Global,
         structures: &'a Structures,
+        rulesets: &'a [Ruleset],
         count: usize,
     ) -> Result<Typing<'a>, AllocError>
-        ensures { IfOk result (λ typing. so_far typing ≡ meant.start structures.now count) }
+        ensures { IfOk result (λ typing. so_far typing ≡ meant.start structures.now rulesets.now count) }
     {
         Ok(Typing {
             alloc,
-            names: Names::new(alloc, structures),
+            names: Names::new(alloc, structures, rulesets),
             states: idle(alloc, count)?,
         })
     }
@@ -170,13 +171,14 @@ impl<'a> Typing<'a> {
 pub(crate) fn states_of(
     alloc: Global,
     structures: &Structures,
+    rulesets: &[Ruleset],
     statements: &[Statement],
     graph: &[Items<usize>],
     order: &[u64],
 ) -> Result<Items<State>, AllocError>
-    ensures { IfOk result (λ states. states ≡ whole.states_after structures.now graph.now statements.now order.now) }
+    ensures { IfOk result (λ states. states ≡ whole.states_after structures.now rulesets.now graph.now statements.now order.now) }
 {
-    let mut typing = Typing::new(alloc, structures, statements.len())?;
+    let mut typing = Typing::new(alloc, structures, rulesets, statements.len())?;
     typing.type_all(statements, graph, order)?;
     let Typing { states, .. } = typing;
     Ok(states)

@@ -10,14 +10,14 @@ use Rattle.scalar_trees.specs.declared.typing.stop.TypeStop.{TypeStop}
 use Rattle.scalar_trees.specs.declared.typing.stop.TypeStop.TheVariants.{Refused, Memory}
 use Rattle.scalar_trees.specs.typing.Scalars.{place_of}
 use Rattle.scalar_trees.specs.typing.Steps.{◌>>=◌, Refuses}
-use Rattle.data_set_trees.specs.declared.clauses.clause.CheckedClause.{CheckedClause}
 use Rattle.data_set_trees.specs.declared.clauses.frame.Frame.{Frame}
-use Rattle.data_set_trees.specs.clauses.After.{after}
 use Rattle.operator_typing.proofs.Steps.{goes_on, stops_same, stops_there, stops_after}
 use Rattle.data_set_trees.specs.declared.operand.Operand.{Operand}
 use Rattle.expression_rules.specs.JoinClauses as meant
 use Rattle.data_set_trees.specs.Trees.{SetAnswer}
-use Rattle.expression_rules.specs.OnClauses.{clause_checked}
+use Rattle.expression_rules.specs.declared.point_clause.PointClause.{PointClause}
+use Rattle.expression_rules.specs.OnClauses.{point_checked}
+use Rattle.expression_rules.specs.PointClauses.{after}
 use Rattle.data_set_parts.proofs.Follows.{assoc, gave}
 use Rattle.join_typing.specs.declared.joining.Placed.{Placed}
 use Rattle.join_typing.specs.declared.joining.Joining.{Joining}
@@ -41,7 +41,7 @@ abbrev with_all : List Clause → Inside → Result Inside Refusal
 with_all [] s = Ok s
 with_all (c ∷ cs) s = with_one c s >>= with_all cs
 
-more_put : (c : Clause) (s : Inside) (k : CheckedClause) (checked : List meant.Placed) → with_more (put_clause c s k) checked ≡ with_more s (record { clause = k; place = place_of c } ∷ checked)
+more_put : (c : Clause) (s : Inside) (k : PointClause) (checked : List meant.Placed) → with_more (put_clause c s k) checked ≡ with_more s (record { clause = k; place = place_of c } ∷ checked)
 more_put c s k checked =
     let own : Placed = record { clause = k; place = place_of c } in
     ap (λ (clauses : List Placed). record { clauses = clauses; frame = meant.after_all checked (after k s.frame) }) (append_assoc s.clauses (own ∷ []) (map unplaced checked))
@@ -49,9 +49,9 @@ more_put c s k checked =
 all_are : (cs : List Clause) (s : Inside) → with_all cs s ≡ (meant.inside cs s.frame >>= (λ checked. Ok (with_more s checked)))
 all_are [] s = ap (λ (clauses : List Placed). Ok (record { clauses = clauses; frame = s.frame })) (sym (append-nil s.clauses))
 all_are (c ∷ cs) s =
-    let found = clause_checked c s.frame in
-    let own : CheckedClause → meant.Placed = λ k. record { clause = k; place = place_of c } in
-    let others = λ (k : CheckedClause). meant.inside cs (after k s.frame) in
+    let found = point_checked c s.frame in
+    let own : PointClause → meant.Placed = λ k. record { clause = k; place = place_of c } in
+    let others = λ (k : PointClause). meant.inside cs (after k s.frame) in
     let told : Inside → Result Inside Refusal = λ i. Ok i in
     assoc found (λ k. Ok (put_clause c s k)) (with_all cs)
     ∙ (λ i. found >>= (λ k. all_are cs (put_clause c s k) i))

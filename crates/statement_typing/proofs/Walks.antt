@@ -6,7 +6,7 @@ use Rattle.vtl_syntax.specs.declared.expr.JoinOperand.{JoinOperand}
 use Rattle.scalar_trees.specs.typing.Steps.{◌>>=◌}
 use Rattle.data_set_trees.specs.declared.clauses.frame.Frame.{Frame}
 use Rattle.expression_rules.specs.Expressions.{Naming, typing, all_typed, typed}
-use Rattle.expression_rules.specs.OnClauses.{item_checked, items_checked}
+use Rattle.expression_rules.specs.OnClauses.{item_checked, items_checked, analytic_checked, all_analytic_checked}
 use Rattle.data_set_parts.specs.Walks.{each}
 use Rattle.statement_typing.specs.Joins.{typing_of}
 
@@ -21,3 +21,7 @@ items_each frame (item ∷ items) = λ i. item_checked frame item >>= (λ c. ite
 pub joined_each : (naming : Naming) (os : List JoinOperand) → each (λ o. typing_of o naming) os ≡ all_typed (map typing_of os) naming
 joined_each naming [] = refl
 joined_each naming (o ∷ os) = λ i. typing_of o naming >>= (λ d. joined_each naming os i >>= (λ ds. Ok (d ∷ ds)))
+
+pub analytic_each : (frame : Frame) (items : List Item) → each (analytic_checked frame) items ≡ all_analytic_checked frame items
+analytic_each frame [] = refl
+analytic_each frame (item ∷ items) = λ i. analytic_checked frame item >>= (λ c. analytic_each frame items i >>= (λ cs. Ok (c ∷ cs)))

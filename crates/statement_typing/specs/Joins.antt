@@ -8,12 +8,12 @@ use Rattle.vtl_syntax.specs.declared.expr.JoinOperand.{JoinOperand, out-JoinOper
 use Rattle.scalar_trees.specs.declared.typing.stop.Refusal.{Refusal}
 use Rattle.scalar_trees.specs.typing.Scalars.{place_of}
 use Rattle.scalar_trees.specs.typing.Steps.{◌>>=◌}
-use Rattle.data_set_trees.specs.declared.clauses.clause.CheckedClause.{CheckedClause}
-use Rattle.data_set_trees.specs.clauses.After.{after}
+use Rattle.expression_rules.specs.declared.point_clause.PointClause.{PointClause}
 use Rattle.expression_rules.specs.Expressions.{Naming, Typing, typing}
 use Rattle.data_set_trees.specs.Joins.{alias_of}
 use Rattle.expression_rules.specs.JoinClauses.{join_typed}
-use Rattle.expression_rules.specs.OnClauses.{clause_checked}
+use Rattle.expression_rules.specs.OnClauses.{point_checked}
+use Rattle.expression_rules.specs.PointClauses.{after}
 use Rattle.data_set_trees.specs.Trees.{SetAnswer}
 use Rattle.statement_typing.specs.Parts.{after_all}
 use Rattle.statement_typing.specs.declared.joins.Inside.{Inside}
@@ -26,11 +26,11 @@ abbrev pub typing_of : JoinOperand → Typing
 typing_of o = typing (out-JoinOperand o).expr
 
 -- the clauses so far, and one more
-abbrev pub put_clause : Clause → Inside → CheckedClause → Inside
+abbrev pub put_clause : Clause → Inside → PointClause → Inside
 put_clause c s checked = record { clauses = s.clauses ++ record { clause = checked; place = place_of c } ∷ []; frame = after checked s.frame }
 
 abbrev pub with_one : Clause → Inside → Result Inside Refusal
-with_one c s = clause_checked c s.frame >>= (λ checked. Ok (put_clause c s checked))
+with_one c s = point_checked c s.frame >>= (λ checked. Ok (put_clause c s checked))
 
 abbrev pub with_optional : Option Clause → Inside → Result Inside Refusal
 with_optional None s = Ok s

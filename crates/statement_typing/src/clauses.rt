@@ -7,11 +7,13 @@ ghost use Rattle.expression_rules.specs.OnClauses as meant;
 ghost use Rattle.statement_typing.specs.Parts.{Answers};
 
 use crate::items::{calc_checked, filter_checked};
-use crate::on_sets::on_aggr;
+use crate::on_sets::{on_aggr, with_window};
+use crate::points::point_checked;
 use clause_typing::{drop_typed, frame_of, keep_typed, rename_typed, sub_typed, unpivot_typed};
 use data_set_parts::clauses::with_clause;
 use data_set_trees::clauses::{CheckedClause, Frame};
 use data_set_trees::{DataSet, Operand};
+use expression_rules::PointClause;
 use scalar_trees::typing::{Fault, TypeStop};
 use sqlite_items::Boxed;
 use std::alloc::Global;
@@ -34,7 +36,7 @@ pub(crate) fn clause_place(clause: &Clause) -> Place
     }
 }
 
-/// A clause on a frame, on which `aggr` has no place.
+/// A clause on a frame that works on each point by itself, which `aggr` doesn't.
 pub(crate) fn clause_checked(
     alloc: Global,
     clause: &Clause,
@@ -69,9 +71,14 @@ fn on_data_set(alloc: Global, clause: &Clause, set: Boxed<DataSet>) -> Result<Op
     ensures { Answers (meant.on_points clause.now (operands.DataSet set)) result }
 {
     let frame = frame_of(alloc, set.get().structure.components())?;
-    let checked = clause_checked(alloc, clause, &frame)?;
-    let set = with_clause(alloc, checked, clause_place(clause), set.into_inner())?;
-    Ok(Operand::DataSet(set))
+    let place = clause_place(clause);
+    match point_checked(alloc, clause, &frame)? {
+        PointClause::Alone(checked) => {
+            let set = with_clause(alloc, checked, place, set.into_inner())?;
+            Ok(Operand::DataSet(set))
+        }
+        PointClause::Analytic(window) => Ok(with_window(alloc, window, place, set.into_inner())?),
+    }
 }
 
 /// A clause that works on points.

@@ -11,12 +11,12 @@ ghost use Rattle.statement_typing.specs.Names.{naming_of};
 ghost use Rattle.statement_typing.specs.Parts.{Answers, TypesParts};
 
 use crate::checker::Checker;
-use crate::clauses::{clause_checked, clause_place};
+use crate::clauses::clause_place;
 use crate::names::Names;
-use clause_typing::frame_after;
+use crate::points::point_checked;
 use data_set_trees::Operand;
 use data_set_trees::clauses::Frame;
-use join_typing::{Placed, begin, copy_frame, finish};
+use join_typing::{Placed, begin, copy_frame, finish, frame_left};
 use scalar_trees::typing::TypeStop;
 use sqlite_items::{Boxed, Items};
 use std::alloc::{AllocError, Global};
@@ -36,8 +36,8 @@ fn with_one(alloc: Global, clause: &Clause, so_far: Inside) -> Result<Inside, Ty
     ensures { Answers (own.with_one clause.now so_far) result }
 {
     let Inside { mut clauses, frame } = so_far;
-    let checked = clause_checked(alloc, clause, &frame)?;
-    let frame = frame_after(alloc, &checked, frame)?;
+    let checked = point_checked(alloc, clause, &frame)?;
+    let frame = frame_left(alloc, &checked, frame)?;
     clauses.push(Placed {
         clause: checked,
         place: clause_place(clause),

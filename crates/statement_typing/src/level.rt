@@ -33,7 +33,7 @@ fn literal(value: &Value) -> Result<Operand, TypeStop>
 
 /// A name, which stands for a data set.
 fn name(names: &Names<'_>, name: &Word, place: Place) -> Result<Operand, TypeStop>
-    ensures { Answers (meant.named_typed (naming_of names.now name.now) place) result }
+    ensures { Answers (meant.named_typed ((naming_of names.now).data_set name.now) place) result }
 {
     match names.data_set(name)? {
         Some(set) => Ok(Operand::DataSet(set)),
@@ -41,7 +41,7 @@ fn name(names: &Names<'_>, name: &Word, place: Place) -> Result<Operand, TypeSto
     }
 }
 
-/// What has no place outside of clauses, or isn't typed yet.
+/// What has no place outside of clauses, and a call of a defined operator, which was written out before.
 fn misplaced(place: Place) -> Result<Operand, TypeStop>
     ensures { Answers {A = Operand} (refused WrongStructure place) result }
 {
@@ -221,9 +221,51 @@ impl<F: Fn(Global, &Names<'_>, &Expr) -> Result<Operand, TypeStop> + Copy> Check
                 place,
             } => self.offset(*function, operand, *offset, over, *place),
             Expr::Rank { place, .. } => misplaced(*place),
-            Expr::CheckDatapoint { place, .. } => misplaced(*place),
-            Expr::Hierarchy { place, .. } => misplaced(*place),
-            Expr::CheckHierarchy { place, .. } => misplaced(*place),
+            Expr::CheckDatapoint {
+                operand,
+                ruleset,
+                ruleset_place,
+                output,
+                place,
+            } => self.check_datapoint(operand, ruleset, *ruleset_place, *output, *place),
+            Expr::Hierarchy {
+                operand,
+                ruleset,
+                ruleset_place,
+                component,
+                mode,
+                input,
+                output,
+                place,
+            } => self.hierarchy(
+                operand,
+                ruleset,
+                *ruleset_place,
+                component,
+                *mode,
+                *input,
+                *output,
+                *place,
+            ),
+            Expr::CheckHierarchy {
+                operand,
+                ruleset,
+                ruleset_place,
+                component,
+                mode,
+                input,
+                output,
+                place,
+            } => self.check_hierarchy(
+                operand,
+                ruleset,
+                *ruleset_place,
+                component,
+                *mode,
+                *input,
+                *output,
+                *place,
+            ),
             Expr::Check {
                 operand,
                 code,

@@ -1,4 +1,4 @@
-// What the names of data sets stand for.
+// What names stand for.
 ghost use Rattle.std.specs.Prelude.{◌≡◌, [], Some, IfOk, OnOk, OnErr, if◌then◌else◌};
 ghost use Rattle.std.specs.Option.{option_copied};
 ghost use Rattle.vtl_values.specs.Texts.{same_text};
@@ -8,6 +8,7 @@ use data_set_trees::{DataSet, DataSetTree, Source};
 use indexmap::IndexMap;
 use std::alloc::{AllocError, Global};
 use std::marker::Model;
+use vtl_syntax::Ruleset;
 use vtl_values::{Structure, Structures, Word};
 
 /// The result of a statement: the number of the statement in the script, from 0, and its structure.
@@ -17,19 +18,23 @@ pub struct StatementResult {
     pub structure: Structure,
 }
 
-/// The inputs, and the results of statements so far, by name. Contracts see both as lists of names and what has them.
+/// The inputs, and the results of statements so far, by name, and the script's rulesets. Contracts see the first two as
+/// lists of names and what has them.
 #[derive(Drop)]
 pub struct Names<'a> {
     inputs: &'a Structures,
+    rulesets: &'a [Ruleset],
     results: IndexMap<Word, StatementResult>,
 }
 
 impl<'a> Model for Names<'a> {
-    ghost use Rattle.statement_typing.specs.Names.{Known};
+    ghost use Rattle.statement_typing.specs.Names.{Known, known_coded};
 
     ghost Value = { Known };
 
-    ghost view = { λ names. record { inputs = names.inputs.now; results = names.results.entries } };
+    ghost coded = { known_coded };
+
+    ghost view = { λ names. record { inputs = names.inputs.now; rulesets = names.rulesets.now; results = names.results.entries } };
 }
 
 /// The data set that stands under a name.
@@ -43,12 +48,13 @@ fn named(source: Source, structure: &Structure) -> Result<DataSet, AllocError>
 }
 
 impl<'a> Names<'a> {
-    /// These inputs, and no results yet.
-    pub fn new(alloc: Global, inputs: &'a Structures) -> Self
-        ensures { result ≡ record { inputs = inputs.now; results = [] } }
+    /// These inputs and these rulesets, and no results yet.
+    pub fn new(alloc: Global, inputs: &'a Structures, rulesets: &'a [Ruleset]) -> Self
+        ensures { result ≡ record { inputs = inputs.now; rulesets = rulesets.now; results = [] } }
     {
         Names {
             inputs,
+            rulesets,
             results: IndexMap::new(alloc),
         }
     }
@@ -69,12 +75,19 @@ impl<'a> Names<'a> {
     /// The data set that a name stands for, if it does: the result of that name, and else the input of that name. Or want of
     /// memory.
     pub fn data_set(&self, name: &Word) -> Result<Option<DataSet>, AllocError>
-        ensures { IfOk result (λ set. set ≡ meant.naming_of self.now name.now) }
+        ensures { IfOk result (λ set. set ≡ (meant.naming_of self.now).data_set name.now) }
     {
         match self.results.get(name) {
             Some(found) => Ok(Some(named(Source::Result(found.number), &found.structure)?)),
             None => self.input(name),
         }
+    }
+
+    /// The script's rulesets.
+    pub(crate) fn rulesets(&self) -> &'a [Ruleset]
+        ensures { result.now ≡ (meant.naming_of self.now).rulesets }
+    {
+        self.rulesets
     }
 
     /// From now on the name stands for the result of the statement with this number. At want of memory nothing has changed.

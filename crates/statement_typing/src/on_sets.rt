@@ -28,7 +28,7 @@ use vtl_values::{Integer, Place};
 use window_typing::{frame_after, offset_on, window_on};
 
 /// The operand as a data set; `WrongStructure` where it is a scalar.
-fn set_of(place: Place, operand: Operand) -> Result<DataSet, TypeStop>
+pub(crate) fn set_of(place: Place, operand: Operand) -> Result<DataSet, TypeStop>
     ensures { Answers (rules.data_set_of place operand) result }
 {
     match operand {
@@ -86,7 +86,7 @@ pub(crate) fn on_aggr(
 }
 
 /// Analytic operators on a data set of which they give a structure.
-fn with_window(
+pub(crate) fn with_window(
     alloc: Global,
     window: CheckedWindow,
     place: Place,

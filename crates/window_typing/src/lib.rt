@@ -20,3 +20,5 @@ pub use calc::calc_checked;
 pub use items::{analytic_item, scalar_item};
 pub use measures::{offset_on, window_on};
 pub use operands::{offset_typed, rank_typed, window_typed};
+pub use parts::{order_items, partition_names};
+pub use points::{is_offset, points_within};

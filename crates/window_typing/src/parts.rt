@@ -17,7 +17,8 @@ use vtl_syntax::words::Direction;
 use vtl_syntax::{OrderItem, Over};
 use vtl_values::{Component, Word};
 
-fn partition_names(over: &Over) -> &[Word]
+/// The names after `partition by`.
+pub fn partition_names(over: &Over) -> &[Word]
     ensures { result.now ≡ meant.partition_names over.now }
 {
     match &over.partition {
@@ -26,7 +27,8 @@ fn partition_names(over: &Over) -> &[Word]
     }
 }
 
-fn order_items(over: &Over) -> &[OrderItem]
+/// The items after `order by`.
+pub fn order_items(over: &Over) -> &[OrderItem]
     ensures { result.now ≡ meant.order_items over.now }
 {
     match &over.order {

@@ -37,7 +37,7 @@ fn ends_within(end: WindowEnd) -> bool
 }
 
 /// Whether a window reaches no further than it may, where one is stated.
-pub(crate) fn points_within(points: &Option<Points>) -> bool
+pub fn points_within(points: &Option<Points>) -> bool
     ensures { result ≡ meant.points_within points.now }
 {
     match points {
@@ -47,7 +47,7 @@ pub(crate) fn points_within(points: &Option<Points>) -> bool
 }
 
 /// Whether it is an offset: at least one point, and no further than it may reach.
-pub(crate) fn is_offset(offset: Integer) -> bool
+pub fn is_offset(offset: Integer) -> bool
     ensures { result ≡ meant.is_offset offset }
 {
     1 <= offset.value.unsigned_abs() && is_within(offset)

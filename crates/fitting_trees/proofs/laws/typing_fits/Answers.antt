@@ -4,4 +4,4 @@ use Rattle.fitting_trees.proofs.Expressions.{typed-fits}
 use Rattle.fitting_trees.proofs.laws.typing_fits.Goals as goal
 
 pub returns : goal.returns
-returns c = λ structures among naming e d names ranged h. typed-fits structures (λ s. among s ≡ true) naming names e ranged (operand.DataSet d) h
+returns c = λ structures among naming e d names rulesets ranged h. typed-fits structures (λ s. among s ≡ true) naming names rulesets e ranged (operand.DataSet d) h

@@ -20,6 +20,7 @@ use Rattle.data_set_trees.specs.Exists.{exists_typed}
 use Rattle.data_set_trees.specs.Sets.{sets_typed}
 use Rattle.expression_rules.specs.OnChecks.{check_typed}
 use Rattle.expression_rules.specs.OnClauses.{on_clause}
+use Rattle.expression_rules.specs.OnRules.{datapoint_called, hierarchy_called, with_ruleset, on_datapoint, on_hierarchy, on_check_hierarchy}
 use Rattle.expression_rules.specs.OnSets.{on_aggregate, on_window, on_offset, on_time, on_shift, on_fill}
 use Rattle.expression_rules.specs.Expressions as meant
 use Rattle.statement_typing.specs.Joins.{clauses_in, join_on}
@@ -128,7 +129,7 @@ returns-in-Literal g c =
 pub returns-in-Name : goal.returns-in-Name
 returns-in-Name g c =
     let naming = naming_of c.args.self.now.names.now in
-    let value : SetAnswer = meant.named_typed (naming c.in-Name.word) c.in-Name.place in
+    let value : SetAnswer = meant.named_typed (naming.data_set c.in-Name.word) c.in-Name.place in
     answers_level naming (Expr-F.Name c.in-Name.word c.in-Name.place) c.args.self.now.tree.now value c.name.result (tree.rolls-Name c.in-Name.word c.in-Name.place ∙ sym c.in-Name.is) (refl) c.name.ensures
 
 pub returns-in-Bracket : goal.returns-in-Bracket
@@ -233,20 +234,20 @@ returns-in-Rank g c =
 pub returns-in-CheckDatapoint : goal.returns-in-CheckDatapoint
 returns-in-CheckDatapoint g c =
     let naming = naming_of c.args.self.now.names.now in
-    let value : SetAnswer = refused WrongStructure c.in-CheckDatapoint.place in
-    answers_level naming (Expr-F.CheckDatapoint c.in-CheckDatapoint.operand c.in-CheckDatapoint.ruleset c.in-CheckDatapoint.ruleset_place c.in-CheckDatapoint.output c.in-CheckDatapoint.place) c.args.self.now.tree.now value c.misplaced-in-CheckDatapoint.result (tree.rolls-CheckDatapoint c.in-CheckDatapoint.operand c.in-CheckDatapoint.ruleset c.in-CheckDatapoint.ruleset_place c.in-CheckDatapoint.output c.in-CheckDatapoint.place ∙ sym c.in-CheckDatapoint.is) (refl) c.misplaced-in-CheckDatapoint.ensures
+    let value : SetAnswer = with_ruleset (datapoint_called naming.rulesets c.in-CheckDatapoint.ruleset) c.in-CheckDatapoint.ruleset_place (λ r. after_one naming c.in-CheckDatapoint.operand (on_datapoint c.in-CheckDatapoint.output c.in-CheckDatapoint.place r)) in
+    answers_level naming (Expr-F.CheckDatapoint c.in-CheckDatapoint.operand c.in-CheckDatapoint.ruleset c.in-CheckDatapoint.ruleset_place c.in-CheckDatapoint.output c.in-CheckDatapoint.place) c.args.self.now.tree.now value c.check_datapoint.result (tree.rolls-CheckDatapoint c.in-CheckDatapoint.operand c.in-CheckDatapoint.ruleset c.in-CheckDatapoint.ruleset_place c.in-CheckDatapoint.output c.in-CheckDatapoint.place ∙ sym c.in-CheckDatapoint.is) (refl) c.check_datapoint.ensures
 
 pub returns-in-Hierarchy : goal.returns-in-Hierarchy
 returns-in-Hierarchy g c =
     let naming = naming_of c.args.self.now.names.now in
-    let value : SetAnswer = refused WrongStructure c.in-Hierarchy.place in
-    answers_level naming (Expr-F.Hierarchy c.in-Hierarchy.operand c.in-Hierarchy.ruleset c.in-Hierarchy.ruleset_place c.in-Hierarchy.component c.in-Hierarchy.mode c.in-Hierarchy.input c.in-Hierarchy.output c.in-Hierarchy.place) c.args.self.now.tree.now value c.misplaced-in-Hierarchy.result (tree.rolls-Hierarchy c.in-Hierarchy.operand c.in-Hierarchy.ruleset c.in-Hierarchy.ruleset_place c.in-Hierarchy.component c.in-Hierarchy.mode c.in-Hierarchy.input c.in-Hierarchy.output c.in-Hierarchy.place ∙ sym c.in-Hierarchy.is) (refl) c.misplaced-in-Hierarchy.ensures
+    let value : SetAnswer = with_ruleset (hierarchy_called naming.rulesets c.in-Hierarchy.ruleset) c.in-Hierarchy.ruleset_place (λ r. after_one naming c.in-Hierarchy.operand (on_hierarchy c.in-Hierarchy.component c.in-Hierarchy.mode c.in-Hierarchy.input c.in-Hierarchy.output c.in-Hierarchy.place r)) in
+    answers_level naming (Expr-F.Hierarchy c.in-Hierarchy.operand c.in-Hierarchy.ruleset c.in-Hierarchy.ruleset_place c.in-Hierarchy.component c.in-Hierarchy.mode c.in-Hierarchy.input c.in-Hierarchy.output c.in-Hierarchy.place) c.args.self.now.tree.now value c.hierarchy.result (tree.rolls-Hierarchy c.in-Hierarchy.operand c.in-Hierarchy.ruleset c.in-Hierarchy.ruleset_place c.in-Hierarchy.component c.in-Hierarchy.mode c.in-Hierarchy.input c.in-Hierarchy.output c.in-Hierarchy.place ∙ sym c.in-Hierarchy.is) (refl) c.hierarchy.ensures
 
 pub returns-in-CheckHierarchy : goal.returns-in-CheckHierarchy
 returns-in-CheckHierarchy g c =
     let naming = naming_of c.args.self.now.names.now in
-    let value : SetAnswer = refused WrongStructure c.in-CheckHierarchy.place in
-    answers_level naming (Expr-F.CheckHierarchy c.in-CheckHierarchy.operand c.in-CheckHierarchy.ruleset c.in-CheckHierarchy.ruleset_place c.in-CheckHierarchy.component c.in-CheckHierarchy.mode c.in-CheckHierarchy.input c.in-CheckHierarchy.output c.in-CheckHierarchy.place) c.args.self.now.tree.now value c.misplaced-in-CheckHierarchy.result (tree.rolls-CheckHierarchy c.in-CheckHierarchy.operand c.in-CheckHierarchy.ruleset c.in-CheckHierarchy.ruleset_place c.in-CheckHierarchy.component c.in-CheckHierarchy.mode c.in-CheckHierarchy.input c.in-CheckHierarchy.output c.in-CheckHierarchy.place ∙ sym c.in-CheckHierarchy.is) (refl) c.misplaced-in-CheckHierarchy.ensures
+    let value : SetAnswer = with_ruleset (hierarchy_called naming.rulesets c.in-CheckHierarchy.ruleset) c.in-CheckHierarchy.ruleset_place (λ r. after_one naming c.in-CheckHierarchy.operand (on_check_hierarchy c.in-CheckHierarchy.component c.in-CheckHierarchy.mode c.in-CheckHierarchy.input c.in-CheckHierarchy.output c.in-CheckHierarchy.place r)) in
+    answers_level naming (Expr-F.CheckHierarchy c.in-CheckHierarchy.operand c.in-CheckHierarchy.ruleset c.in-CheckHierarchy.ruleset_place c.in-CheckHierarchy.component c.in-CheckHierarchy.mode c.in-CheckHierarchy.input c.in-CheckHierarchy.output c.in-CheckHierarchy.place) c.args.self.now.tree.now value c.check_hierarchy.result (tree.rolls-CheckHierarchy c.in-CheckHierarchy.operand c.in-CheckHierarchy.ruleset c.in-CheckHierarchy.ruleset_place c.in-CheckHierarchy.component c.in-CheckHierarchy.mode c.in-CheckHierarchy.input c.in-CheckHierarchy.output c.in-CheckHierarchy.place ∙ sym c.in-CheckHierarchy.is) (refl) c.check_hierarchy.ensures
 
 pub returns-in-Time : goal.returns-in-Time
 returns-in-Time g c =

@@ -1,0 +1,3 @@
+mod Leading
+mod Levels
+pub mod Sizes

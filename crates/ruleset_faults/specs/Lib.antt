@@ -1,0 +1,3 @@
+pub mod Expressions
+pub mod Items
+pub mod Rulesets
