@@ -1,9 +1,10 @@
 // The structures of results.
-ghost use Rattle.std.specs.Prelude.{◌≡◌, true, Ok, map, IfOk, IfErr};
+ghost use Rattle.std.specs.Prelude.{◌≡◌, true, Ok, length, map, nat_le, IfOk, IfErr};
 ghost use Rattle.vtl_values.specs.Structures.{IsStructure};
 ghost use Rattle.scalar_trees.specs.typing.Steps.{Refuses};
 ghost use Rattle.data_set_trees.specs.Components as parts;
 ghost use Rattle.data_set_trees.specs.Pairs as meant;
+ghost use Rattle.data_set_trees.specs.clauses.Clauses as clauses;
 
 use crate::components::{names_differ, unlisted};
 use crate::demands::demands;
@@ -54,6 +55,13 @@ pub fn without_codes(alloc: Global, structure: &Structure) -> Result<Structure, 
 
 const MOST_COMPONENTS: usize = 64;
 
+/// Whether a result may have so many components.
+pub fn has_room(components: &[Component]) -> bool
+    ensures { result ≡ nat_le (length components.now) clauses.MOST_COMPONENTS }
+{
+    components.len() <= MOST_COMPONENTS
+}
+
 /// A result has each name once, else `NameTwice`, and at most so many components, else `TooManyComponents`. Or want of
 /// memory.
 fn result_fits(place: Place, components: &[Component]) -> Result<(), TypeStop>
@@ -64,10 +72,7 @@ fn result_fits(place: Place, components: &[Component]) -> Result<(), TypeStop>
         place,
         &[
             (names_differ(components), Fault::NameTwice),
-            (
-                components.len() <= MOST_COMPONENTS,
-                Fault::TooManyComponents,
-            ),
+            (has_room(components), Fault::TooManyComponents),
         ],
     )
 }

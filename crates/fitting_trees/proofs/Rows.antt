@@ -2,7 +2,7 @@
 use Rattle.std.proofs.Common.{◌≡◌, refl, ℕ, ℤ, Bool, true, false, ◌&&◌, List, [], ◌∷◌, map, length, Option, Some, None, Result, Ok, sym, subst, ◌∙◌, if◌then◌else◌}
 use Rattle.std.proofs.lemmas.List.Folds.{list_all-map}
 use Rattle.std.proofs.lemmas.List.Elements.{All-nil, All-cons, All-head, All-tail}
-use Rattle.std.specs.Prelude.{unwrap_or, option_map}
+use Rattle.std.specs.Prelude.{nat_le, unwrap_or, option_map}
 use Rattle.std.specs.List.{All, list_all}
 use Rattle.std.specs.Option.{option_to_list}
 use Rattle.vtl_values.specs.declared.place.Place.{Place}
@@ -36,7 +36,7 @@ use Rattle.vtl_syntax.specs.declared.expr.SubstrRange.{SubstrRange}
 use Rattle.scalar_trees.specs.WellTyped.{Kinds, in_range}
 use Rattle.scalar_trees.specs.declared.typing.stop.Fault.{Fault}
 use Rattle.scalar_trees.specs.declared.typing.stop.Refusal.{Refusal}
-use Rattle.scalar_trees.specs.declared.typing.stop.Fault.TheVariants.{UnknownComponent, WrongType, WrongStructure, NameTwice}
+use Rattle.scalar_trees.specs.declared.typing.stop.Fault.TheVariants.{UnknownComponent, WrongType, WrongStructure, NameTwice, TooManyComponents}
 use Rattle.scalar_trees.specs.typing.Scalars.{literal_typed, if_typed, sort_typed, place_of}
 use Rattle.scalar_trees.specs.typing.Sound.{IsTyped}
 use Rattle.scalar_trees.specs.typing.Steps.{◌>>=◌, or_refused, demanded}
@@ -46,7 +46,7 @@ use Rattle.data_set_trees.specs.declared.clauses.clause.CheckedClause.{CheckedCl
 use Rattle.data_set_trees.specs.declared.clauses.clause.CheckedClause.TheVariants as clause
 use Rattle.data_set_trees.specs.declared.clauses.clause.CheckedMeasure.{CheckedMeasure}
 use Rattle.data_set_trees.specs.clauses.Frames.{frame_of}
-use Rattle.data_set_trees.specs.clauses.Clauses.{demands}
+use Rattle.data_set_trees.specs.clauses.Clauses.{MOST_COMPONENTS, demands}
 use Rattle.data_set_trees.specs.clauses.WellTyped.{kinds_on, is_of}
 use Rattle.data_set_trees.specs.aggregates.Aggregates.{aggregate_checked, aggr_checked}
 use Rattle.data_set_trees.specs.aggregates.Results.{grouped}
@@ -71,7 +71,7 @@ use Rattle.data_set_trees.specs.Exists.{common_agree, exists_structure, exists_t
 use Rattle.expression_rules.specs.Expressions.{sorted, named_typed}
 use Rattle.data_set_trees.specs.Forms.{changed_name, is_of_two}
 use Rattle.data_set_trees.specs.Lifted.{answer, each_fits, all_fit, has_one_if, is_free, set_place, measures_checked, on_none, on_one, on_many}
-use Rattle.data_set_trees.specs.Members.{member_from, member_typed}
+use Rattle.data_set_trees.specs.Members.{in_room, member_from, member_typed}
 use Rattle.expression_rules.specs.declared.point_clause.PointClause.{PointClause}
 use Rattle.expression_rules.specs.declared.point_clause.PointClause.TheVariants.{Alone, Analytic}
 use Rattle.expression_rules.specs.OnClauses.{point_checked, on_points, by_form, on_clause}
@@ -231,10 +231,11 @@ module _ (structures : Source → Option (List Component)) (among : Source → T
   member-fits name place (operand.DataSet d) h o e =
       let s = d.structure in
       let set : CheckedMeasure → DataSet = λ m. with_clause (clause.Measures (m ∷ [])) place d in
-      let found = gave (or_refused (member_from 0 name s) UnknownComponent place) (λ m. demanded (is_free (Some m.name) s) NameTwice place >>= (λ met. Ok (operand.DataSet (set m)))) o e in
-      let free = gave (demanded (is_free (Some found.0.name) s) NameTwice place) (λ met. Ok (operand.DataSet (set found.0))) o found.2 in
+      let found = gave (or_refused (member_from 0 name s) UnknownComponent place) (λ m. demanded (is_free (Some m.name) s) NameTwice place >>= (λ met. in_room place (set m))) o e in
+      let free = gave (demanded (is_free (Some found.0.name) s) NameTwice place) (λ met. in_room place (set found.0)) o found.2 in
+      let room = gave (demanded (nat_le (length (set found.0).structure) MOST_COMPONENTS) TooManyComponents place) (λ met. Ok (operand.DataSet (set found.0))) o free.2 in
       let own = member-is s name found.0 (or-given (member_from 0 name s) UnknownComponent place found.0 found.1) in
-      given-fits (operand.DataSet (set found.0)) o (clause-fits structures among (clause.Measures (found.0 ∷ [])) place d h (both (is_of (frame_of s) found.0.kind found.0.value) true own refl)) free.2
+      given-fits (operand.DataSet (set found.0)) o (clause-fits structures among (clause.Measures (found.0 ∷ [])) place d h (both (is_of (frame_of s) found.0.kind found.0.value) true own refl)) room.2
 
   pub exists-fits : (which : Option ExistsRows) (place : Place) (a b : Operand) → IsFit a → IsFit b → Fits (exists_typed which place a b)
   exists-fits which place (operand.DataSet s) (operand.DataSet t) h i o e =

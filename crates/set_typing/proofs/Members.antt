@@ -16,7 +16,7 @@ use Rattle.data_set_trees.proofs.clauses.Made.{measures_give}
 use Rattle.data_set_trees.specs.declared.operand.DataSet.{DataSet}
 use Rattle.data_set_trees.specs.declared.operand.Operand.TheVariants as operand
 use Rattle.data_set_trees.specs.Lifted.{is_free}
-use Rattle.data_set_trees.specs.Members.{member_from, member_typed}
+use Rattle.data_set_trees.specs.Members.{in_room, member_from, member_typed}
 use Rattle.data_set_trees.specs.Trees.{SetAnswer, with_clause}
 use Rattle.data_set_parts.specs.Results.{structure_after}
 use Rattle.data_set_parts.proofs.Follows.{gave}
@@ -24,20 +24,20 @@ use Rattle.data_set_parts.proofs.Fits.{free_of_staying, unlisted_is}
 use Rattle.set_typing.specs.Plans.{member_measure, member_clause, member_of}
 
 abbrev on_set : CheckedMeasure → Place → DataSet → SetAnswer
-on_set m place d = Ok (operand.DataSet (with_clause (clause.Measures (m ∷ [])) place d))
+on_set m place d = in_room place (with_clause (clause.Measures (m ∷ [])) place d)
 
 lifts_by : (o : Option CheckedMeasure) (free : CheckedMeasure → Bool) (place : Place) (d : DataSet)
     → (or_refused o UnknownComponent place >>= (λ m. demanded (free m) NameTwice place >>= (λ met. on_set m place d)))
-    ≡ ((((or_refused o UnknownComponent place >>= (λ m. demanded (free m) NameTwice place >>= (λ met. Ok m))) >>= (λ m. Ok (clause.Measures (m ∷ [])))) >>= (λ c. Ok (with_clause c place d))) >>= (λ e. Ok (operand.DataSet e)))
+    ≡ ((((or_refused o UnknownComponent place >>= (λ m. demanded (free m) NameTwice place >>= (λ met. Ok m))) >>= (λ m. Ok (clause.Measures (m ∷ [])))) >>= (λ c. Ok (with_clause c place d))) >>= in_room place)
 lifts_by None free place d = refl
 lifts_by (Some m) free place d =
     elim (free m) as (λ (b : Bool). (demanded b NameTwice place >>= (λ met. on_set m place d))
-    ≡ ((((demanded b NameTwice place >>= (λ met. Ok m)) >>= (λ m. Ok (clause.Measures (m ∷ [])))) >>= (λ c. Ok (with_clause c place d))) >>= (λ e. Ok (operand.DataSet e)))) [
+    ≡ ((((demanded b NameTwice place >>= (λ met. Ok m)) >>= (λ m. Ok (clause.Measures (m ∷ [])))) >>= (λ c. Ok (with_clause c place d))) >>= in_room place)) [
       | true ↦ refl
       | false ↦ refl
     ]
 
-pub member_lifts : (name : List ℕ) (place : Place) (d : DataSet) → member_typed name place (operand.DataSet d) ≡ (member_of name place d >>= (λ e. Ok (operand.DataSet e)))
+pub member_lifts : (name : List ℕ) (place : Place) (d : DataSet) → member_typed name place (operand.DataSet d) ≡ (member_of name place d >>= in_room place)
 member_lifts name place d = lifts_by (member_from 0 name d.structure) (λ m. is_free (Some m.name) d.structure) place d
 
 -- what is demanded holds

@@ -9,6 +9,7 @@ ghost use Rattle.set_typing.specs.Plans as own;
 use data_set_parts::clauses::with_clause;
 use data_set_parts::components::{has_name, has_role};
 use data_set_parts::names::{is_free, name_of_kind};
+use data_set_parts::results::has_room;
 use data_set_trees::clauses::{CheckedClause, CheckedMeasure};
 use data_set_trees::{DataSet, Measure, Operand};
 use scalar_trees::CheckedExpr;
@@ -105,6 +106,19 @@ fn member_of(alloc: Global, name: &Word, place: Place, set: DataSet) -> Result<D
     Ok(with_clause(alloc, clause, place, set)?)
 }
 
+/// A data set within the limit of components.
+fn in_room(place: Place, set: DataSet) -> Result<Operand, TypeStop>
+    ensures ok { IfOk result (λ o. meant.in_room place set ≡ Ok o) }
+    ensures err { IfErr result (Refuses (meant.in_room place set)) }
+{
+    demand(
+        has_room(set.structure.components()),
+        Fault::TooManyComponents,
+        place,
+    )?;
+    Ok(Operand::DataSet(set))
+}
+
 /// A scalar has no components.
 fn misplaced(place: Place, scalar: Typed) -> Result<Operand, TypeStop>
     ensures { result ≡ Err (Refused (record { fault = fault.WrongStructure; place = place })) }
@@ -116,7 +130,8 @@ fn misplaced(place: Place, scalar: Typed) -> Result<Operand, TypeStop>
 /// `operand#name` at its place: the identifiers and viral attributes of the data set, and the component of this name as its
 /// only measure, under the name of its kind where it isn't a measure already. Or its first fault: `WrongStructure` where
 /// the operand is a scalar; else `UnknownComponent` where no component has the name; else `NameTwice` where an identifier
-/// or a viral attribute has the name that the measure gets. Or want of memory. It costs the number of components.
+/// or a viral attribute has the name that the measure gets; else `TooManyComponents` where the result would have more than
+/// 64. Or want of memory. It costs the number of components.
 pub fn member(
     alloc: Global,
     name: &Word,
@@ -128,6 +143,6 @@ pub fn member(
 {
     match operand {
         Operand::Scalar(scalar) => misplaced(place, scalar),
-        Operand::DataSet(set) => Ok(Operand::DataSet(member_of(alloc, name, place, set)?)),
+        Operand::DataSet(set) => in_room(place, member_of(alloc, name, place, set)?),
     }
 }
