@@ -6,6 +6,7 @@ use Rattle.std.specs.Option.{is_none}
 use Rattle.std.specs.List.{list_any, range_with_len}
 use Rattle.std.specs.Ordering.{nat_cmp}
 use Rattle.std.proofs.Math.Seq.{drop-cons}
+use Rattle.std.proofs.lemmas.Bool.{false≢true}
 use Rattle.std.proofs.lemmas.Grind.{flat_map-append}
 use Rattle.std.proofs.lemmas.List.{append-nil, length-map, map-append, take_all, take_more}
 use Rattle.std.proofs.lemmas.List.Elements.{filter-append}
@@ -69,6 +70,26 @@ no-combinations side first number place zero (l ∷ lists) rows is within at non
 no-combinations side first number place (suc i) (l ∷ lists) rows is within at none =
     let later = no-combinations side first (number + 1) place i lists rows (omega (arith, is)) (omega (arith, within)) at none in
     ap (with_each_first (filter (is_chosen side (nat_cmp number first)) l)) later ∙ each-of-none (filter (is_chosen side (nat_cmp number first)) l)
+
+some-chosen : {A : Type 0} (f : A → RowValues) (p : RowValues → Bool) (xs : List A) → list_any (λ x. p (f x)) xs ≡ true → filter p (map f xs) ≡ [] → ⊥
+some-chosen f p [] h e = false≢true h
+some-chosen f p (x ∷ xs) h e = by_test (p (f x)) (some-chosen f p xs) h e
+  where
+    by_test : (b : Bool) → (list_any (λ y. p (f y)) xs ≡ true → filter p (map f xs) ≡ [] → ⊥) → (b || list_any (λ y. p (f y)) xs) ≡ true → cond b (f x ∷ filter p (map f xs)) (filter p (map f xs)) ≡ [] → ⊥
+    by_test true later i none = cc
+    by_test false later i none = later i none
+
+none-of-some : (rows : List RowValues) (cs : List Combination) → (rows ≡ [] → ⊥) → with_each_first rows cs ≡ [] → cs ≡ []
+none-of-some [] cs some none = absurd (some refl)
+none-of-some (r ∷ rows) [] some none = refl
+none-of-some (r ∷ rows) (c ∷ cs) some none = cc
+
+-- where an operand has a choice and there is no combination, there is none of the operands after it
+pub no-later-combinations : {A : Type 0} (side : Side) (first i : ℕ) (lists : List (List RowValues)) (f : A → RowValues) (xs : List A) → i < length lists → map f xs ≡ get_or lists i (map f xs)
+    → list_any (λ x. is_chosen side (nat_cmp i first) (f x)) xs ≡ true → combinations_of (choices side first i (drop i lists)) ≡ [] → combinations_of (choices side first (i + 1) (drop (i + 1) lists)) ≡ []
+no-later-combinations side first i lists f xs within at some none =
+    none-of-some (filter (is_chosen side (nat_cmp i first)) (map f xs)) (combinations_of (choices side first (i + 1) (drop (i + 1) lists))) (some-chosen f (is_chosen side (nat_cmp i first)) xs some)
+    (sym (ap (λ (ls : List (List RowValues)). combinations_of (choices side first i ls)) (drop-more lists i (map f xs) within at)) ∙ none)
 
 -- one operand more
 pub choices-more : (side : Side) (first i : ℕ) (lists all : List (List RowValues)) (rows chosen : List RowValues) → i < length lists → rows ≡ get_or lists i rows → chosen ≡ filter (is_chosen side (nat_cmp i first)) rows

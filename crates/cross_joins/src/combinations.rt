@@ -1,5 +1,5 @@
 // Combinations: a row of each operand.
-ghost use Rattle.std.specs.Prelude.{◌≡◌, ◌++◌, [], ◌∷◌, IsTrue, filter, map, IfOk, OnOk};
+ghost use Rattle.std.specs.Prelude.{◌≡◌, ◌↔◌, ◌++◌, [], ◌∷◌, IsTrue, filter, map, IfOk, OnOk};
 ghost use Rattle.std.specs.List.{list_any};
 ghost use Rattle.cross_joins.specs.Combinations as meant;
 ghost use Rattle.cross_joins.specs.Combinations.{combinations_of};
@@ -18,10 +18,10 @@ fn has_choice(rows: &[Arc<Row>], side: Side, place: Ordering) -> bool
     rows.iter().any(|row| row.is_chosen(side, place))
 }
 
-/// Whether an operand has no row for combinations of which the first changed row is from the operand `first`, so that
+/// Whether an operand has no row for combinations of which the first changed row is from the operand `first`: just then
 /// there are none.
 pub fn is_any_without_choice(rows: &[Items<Arc<Row>>], side: Side, first: usize) -> bool
-    ensures { IsTrue result → combinations_of (meant.choices side first 0 (lists_in rows.now)) ≡ [] }
+    ensures { IsTrue result ↔ (combinations_of (meant.choices side first 0 (lists_in rows.now)) ≡ []) }
 {
     for (i, operand) in rows.iter().enumerate() {
         if !has_choice(operand.as_slice(), side, i.cmp(&first)) {

@@ -9,7 +9,7 @@ use Rattle.cross_joins.proofs.CombinationLemmas.{first_changed-long}
 use Rattle.cross_joins.proofs.notes.note_first_changed.Goals as goal
 
 pub returns-then-is_any_without_choice : goal.returns-then-is_any_without_choice
-returns-then-is_any_without_choice c = sym (ap (λ (cs : List Combination). fold (noted_combination c.args.plan.now) c.args.draft.now cs) (c.is_any_without_choice.ensures c.if-is_any_without_choice.true))
+returns-then-is_any_without_choice c = sym (ap (λ (cs : List Combination). fold (noted_combination c.args.plan.now) c.args.draft.now cs) (c.is_any_without_choice.ensures.0 c.if-is_any_without_choice.true))
 
 pub note_all-requires : goal.note_all-requires
 note_all-requires c =
