@@ -31,9 +31,8 @@ use Rattle.operator_meaning.proofs.Items.{All-left, All-right}
 use Rattle.held_index.specs.Holdings.{Holding, holding_of, operand}
 use Rattle.held_index.specs.declared.want.Want.{Want}
 use Rattle.transform_nodes.specs.Building.{is_among, nothing_held, AllCanBuild, AreAmong, AreBuilt, CanBuild, IsBuilt, IsWellTyped}
-use Rattle.transform_nodes.specs.Rules.{operator_of, wanted_of}
+use Rattle.operator_rules.specs.Rules.{wanted_of}
 use Rattle.transform_nodes.specs.Trees.{Plain, Plains, Source as Numbered, Operates, more, plains_of, all_expressions, count_of, all_forgotten, Holds, HoldsOn, AllStandOn, AllFit}
-use Rattle.transform_nodes.specs.declared.rule.Rule.{Rule}
 use Rattle.transform_nodes.proofs.WorldLemmas.{same_is, results_of-renamed}
 
 -- ---- the expressions of checked trees
@@ -230,7 +229,7 @@ holdings-empty : {A : Type 0} (ts : List A) (ws : List Want) → map (holding_of
 holdings-empty ts [] = refl
 holdings-empty ts (w ∷ ws) = let e = operand-empty w.operand ts in let r = holdings-empty ts ws in (λ i. record { want = w; content = e i } ∷ r i)
 
-pub built-operator : (sources : List Source) (node : DataSetNode) (rule : Rule) (ps : List Plain) (held : List Holding) → IsWellTyped (expression_of_node node) → operator_of rule ≡ record { operator = node.operator; operands = node.operands; structure = node.structure } → AreBuilt sources node.children ps → held ≡ map nothing_held (wanted_of rule) → IsBuilt sources (expression_of_node node) (Operates rule node.place (plains_of ps) held 0 [] 0)
+pub built-operator : (sources : List Source) (node : DataSetNode) (rule : Operator) (ps : List Plain) (held : List Holding) → IsWellTyped (expression_of_node node) → rule ≡ record { operator = node.operator; operands = node.operands; structure = node.structure } → AreBuilt sources node.children ps → held ≡ map nothing_held (wanted_of rule) → IsBuilt sources (expression_of_node node) (Operates rule node.place (plains_of ps) held 0 [] 0)
 built-operator sources node rule ps held can is built held_is =
     let b = operands_built sources node.children ps built in
     let w = b.works_out in

@@ -9,4 +9,3 @@ pub mod WorldLemmas
 pub mod FinishLemmas
 pub mod BuildLemmas
 pub mod NewNodeLemmas
-pub mod WantLemmas

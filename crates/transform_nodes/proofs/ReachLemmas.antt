@@ -23,12 +23,12 @@ use Rattle.held_index.specs.Holdings.{Holding}
 use Rattle.held_index.specs.Reach.{changes_in}
 use Rattle.transform_nodes.specs.Nodes.{AllLead, WorkStandsFor, numbered, operand_on, settled_tree}
 use Rattle.transform_nodes.specs.Reach.{deltas_between, own_reach, tree_reach, all_reach, work_reach}
-use Rattle.transform_nodes.specs.ReachLaws.{no_rule_reach}
-use Rattle.transform_nodes.specs.Rules.{reach_of}
+use Rattle.operator_rules.specs.ReachLaws.{no_rule_reach}
+use Rattle.operator_rules.specs.Rules.{reach_of}
 use Rattle.transform_nodes.specs.Runs.{AllLeads, Moves, RanAll}
 use Rattle.transform_nodes.specs.Trees.{Plain, Plains, Source, Operates, none, more, plain, plains_of, all_expressions}
 use Rattle.transform_nodes.specs.declared.node.Child.{Child}
-use Rattle.transform_nodes.specs.declared.rule.Rule.{Rule}
+use Rattle.data_set_trees.specs.checked.Operators.{Operator}
 use Rattle.transform_nodes.specs.declared.work.Work.{Work}
 
 -- ---- right deltas
@@ -84,14 +84,14 @@ steps_more old new ks i k start before after within is so_far one =
 
 -- ---- an operator, after its operands
 
-asked_reach : (news : List Changes) (m : Moves news) (rule : Rule) (held : List Holding) (ps qs : List Plain) (ds : List Changes) (points : ℕ) → RanAll news m ps qs ds points
+asked_reach : (news : List Changes) (m : Moves news) (rule : Operator) (held : List Holding) (ps qs : List Plain) (ds : List Changes) (points : ℕ) → RanAll news m ps qs ds points
     → own_reach rule held (results_of m.old (all_expressions (plains_of ps))) (results_of m.new (all_expressions (plains_of ps))) ≡ reach_of rule held ds
 asked_reach news m rule held ps qs ds points ran =
     let was = ran.was in
     let is = ran.is in
     (λ i. own_reach rule held (was i) (is i)) ∙ ap (reach_of rule held) (leads_between ds (sets_of ran.before) (sets_of ran.after) ran.leads)
 
-module _ (rule : Rule) (place : Place) (ps qs : List Plain) (held : List Holding) (points : ℕ) (pending : List Holding) (pp : ℕ) where
+module _ (rule : Operator) (place : Place) (ps qs : List Plain) (held : List Holding) (points : ℕ) (pending : List Holding) (pp : ℕ) where
   abbrev tree : Plain
   tree = Operates rule place (plains_of ps) held points pending pp
 
@@ -111,7 +111,7 @@ module _ (rule : Rule) (place : Place) (ps qs : List Plain) (held : List Holding
 
 -- ---- where nothing changes
 
-own_rests : (rule : Rule) (held : List Holding) (r : Result (List Evaluated) Wrong) → own_reach rule held r r ≡ 0
+own_rests : (rule : Operator) (held : List Holding) (r : Result (List Evaluated) Wrong) → own_reach rule held r r ≡ 0
 own_rests rule held (Ok es) = no_rule_reach rule held (deltas_between (sets_of es) (sets_of es)) (no_changes (sets_of es))
 own_rests rule held (Err wrong) = refl
 

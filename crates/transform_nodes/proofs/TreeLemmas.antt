@@ -19,13 +19,12 @@ use Rattle.operator_meaning.specs.Results.{Wrong, Evaluated, sets_of, points_of,
 use Rattle.operator_meaning.proofs.FitLemmas.{gathered-ok, results_of-fit}
 use Rattle.held_index.specs.Holdings.{Holding}
 use Rattle.transform_nodes.specs.Halts.{wrong_in}
-use Rattle.transform_nodes.specs.Rules.{operator_of}
 use Rattle.transform_nodes.specs.Runs.{news_of, AllLeads, IsWork, IsWorked, WorkAnswer, WorksRight, Moves, IsRunnable, AreRunnable, RanOne, RanAll, RunsRight}
 use Rattle.transform_nodes.specs.Trees.{Plain, Plains, Source, Operates, none, more, plains_of, expression, all_expressions, counted, Holds, HoldsOn, StandsOn, AllStandOn, applied, all_applied, forgotten, all_forgotten, count_of, IsFit, AllFit, HasPatches, AllHavePatches}
 use Rattle.transform_nodes.specs.declared.carry.Ran.{Ran}
 use Rattle.transform_nodes.specs.declared.halt.Halt.{Halt}
 use Rattle.transform_nodes.specs.declared.operate.Worked.{Worked}
-use Rattle.transform_nodes.specs.declared.rule.Rule.{Rule}
+use Rattle.data_set_trees.specs.checked.Operators.{Operator}
 use Rattle.transform_nodes.proofs.SettleLemmas.{take_set}
 
 -- ---- what a tree works out doesn't go by what it holds
@@ -33,7 +32,7 @@ use Rattle.transform_nodes.proofs.SettleLemmas.{take_set}
 mutual
   expression-forgotten : (p : Plain) → expression (forgotten p) ≡ expression p
   expression-forgotten (Source n) = refl
-  expression-forgotten (Operates rule place ps held points pending pp) = ap (Applied (operator_of rule) place) (all_expressions-forgotten ps)
+  expression-forgotten (Operates rule place ps held points pending pp) = ap (Applied rule place) (all_expressions-forgotten ps)
 
   all_expressions-forgotten : (ps : Plains) → all_expressions (all_forgotten ps) ≡ all_expressions ps
   all_expressions-forgotten none = refl
@@ -42,7 +41,7 @@ mutual
 mutual
   pub expression-applied : (p : Plain) → expression (applied p) ≡ expression p
   expression-applied (Source n) = refl
-  expression-applied (Operates rule place ps held points pending pp) = ap (Applied (operator_of rule) place) (all_expressions-applied ps)
+  expression-applied (Operates rule place ps held points pending pp) = ap (Applied rule place) (all_expressions-applied ps)
 
   all_expressions-applied : (ps : Plains) → all_expressions (all_applied ps) ≡ all_expressions ps
   all_expressions-applied none = refl
@@ -145,34 +144,34 @@ name_right news n ran within delta points = λ m can. record {
 
 -- ---- an operator, after its operands
 
-pub work_along : (rule : Rule) (h h' : List Holding) (ds ds' : List Changes) (b : ℕ) (zs ys : List DataSet) → h' ≡ h → ds' ≡ ds → IsWork rule h ds b zs ys → IsWork rule h' ds' b zs ys
+pub work_along : (rule : Operator) (h h' : List Holding) (ds ds' : List Changes) (b : ℕ) (zs ys : List DataSet) → h' ≡ h → ds' ≡ ds → IsWork rule h ds b zs ys → IsWork rule h' ds' b zs ys
 work_along rule h h' ds ds' b zs ys p q w = subst (λ (t : List Holding). IsWork rule t ds' b zs ys) (sym p) (subst (λ (t : List Changes). IsWork rule h t b zs ys) (sym q) w)
 
-pub works_along : (rule : Rule) (place : Place) (h h' : List Holding) (ds ds' : List Changes) (b : ℕ) (r : Result Worked Halt) → h ≡ h' → ds ≡ ds' → WorksRight rule place h ds b r → WorksRight rule place h' ds' b r
+pub works_along : (rule : Operator) (place : Place) (h h' : List Holding) (ds ds' : List Changes) (b : ℕ) (r : Result Worked Halt) → h ≡ h' → ds ≡ ds' → WorksRight rule place h ds b r → WorksRight rule place h' ds' b r
 works_along rule place h h' ds ds' b r p q w = subst (λ (t : List Holding). WorksRight rule place t ds' b r) p (subst (λ (t : List Changes). WorksRight rule place h t b r) q w)
 
-module _ (rule : Rule) (place : Place) (ps qs : List Plain) (held : List Holding) (points : ℕ) (pending : List Holding) (pp : ℕ) where
+module _ (rule : Operator) (place : Place) (ps qs : List Plain) (held : List Holding) (points : ℕ) (pending : List Holding) (pp : ℕ) where
   abbrev tree : Plain
   tree = Operates rule place (plains_of ps) held points pending pp
 
   pub operands_runnable : (news : List Changes) (m : Moves news) → IsRunnable news m tree → AreRunnable news m (plains_of ps)
-  operands_runnable news m can = record { structures = (operator_of rule).operands; typed = can.typed.2; stands = can.stands.0 }
+  operands_runnable news m can = record { structures = rule.operands; typed = can.typed.2; stands = can.stands.0 }
 
   pub operands_wrong : (sets : ℕ → DataSet) (halt : Halt) → IfSome (wrong_in halt) (λ w. results_of sets (all_expressions (plains_of ps)) ≡ Err w) → IfSome (wrong_in halt) (λ w. result_of sets (expression tree) ≡ Err w)
-  operands_wrong sets halt h = wrong_all (wrong_in halt) (λ w. results_of sets (all_expressions (plains_of ps)) ≡ Err w) (λ w. result_of sets (expression tree) ≡ Err w) (λ w e. ap (worked (operator_of rule) place) e) h
+  operands_wrong sets halt h = wrong_all (wrong_in halt) (λ w. results_of sets (all_expressions (plains_of ps)) ≡ Err w) (λ w. result_of sets (expression tree) ≡ Err w) (λ w e. ap (worked rule place) e) h
 
   module _ (news : List Changes) (m : Moves news) (can : IsRunnable news m tree) (ds : List Changes) (k : ℕ) (ran : RanAll news m ps qs ds k) where
     pub tree_work : IsWork rule held ds points (sets_of ran.before) (sets_of ran.after)
     tree_work = record {
       typed = can.typed.1;
-      old_fit = results_of-fit m.structures m.old m.old_fit (all_expressions (plains_of ps)) (operator_of rule).operands ran.before can.typed.2 ran.was;
-      new_fit = results_of-fit m.structures m.new m.new_fit (all_expressions (plains_of ps)) (operator_of rule).operands ran.after can.typed.2 ran.is;
+      old_fit = results_of-fit m.structures m.old m.old_fit (all_expressions (plains_of ps)) rule.operands ran.before can.typed.2 ran.was;
+      new_fit = results_of-fit m.structures m.new m.new_fit (all_expressions (plains_of ps)) rule.operands ran.after can.typed.2 ran.is;
       leads = ran.leads;
       holds = subst (λ (r : Result (List Evaluated) Wrong). HoldsOn rule r held points) ran.was can.stands.1;
     }
 
     pub tree_wrong : (x : DataSet) (halt : Halt) → WorkAnswer rule place held (sets_of ran.after) x (Err halt) → IfSome (wrong_in halt) (λ w. result_of m.new (expression tree) ≡ Err w)
-    tree_wrong x halt h = wrong_all (wrong_in halt) (λ w. (n : ℕ) → placed place n (meaning_of (operator_of rule) (sets_of ran.after)) ≡ Err w) (λ w. result_of m.new (expression tree) ≡ Err w) (λ w e. ap (worked (operator_of rule) place) ran.is ∙ e (points_of ran.after)) h
+    tree_wrong x halt h = wrong_all (wrong_in halt) (λ w. (n : ℕ) → placed place n (meaning_of rule (sets_of ran.after)) ≡ Err w) (λ w. result_of m.new (expression tree) ≡ Err w) (λ w e. ap (worked rule place) ran.is ∙ e (points_of ran.after)) h
 
     pub tree_right : (done : Worked) (total : ℕ) → IsWorked rule held (sets_of ran.after) (tree_work).holds.made done → all_forgotten (plains_of qs) ≡ all_forgotten (plains_of ps) → total ≡ counted (k + done.points)
         → RanOne news m tree (Operates rule place (plains_of qs) held points done.patches.items done.points) (arc_value done.delta) total
@@ -185,8 +184,8 @@ module _ (rule : Rule) (place : Place) (ps qs : List Plain) (held : List Holding
         record {
           before = record { set = old.made; points = points_of ran.before + len old.made };
           after = record { set = w.new; points = points_of ran.after + len w.new };
-          was = ap (worked (operator_of rule) place) ran.was ∙ ap (placed place (points_of ran.before)) old.gives;
-          is = ap (worked (operator_of rule) place) ran.is ∙ ap (placed place (points_of ran.after)) w.gives;
+          was = ap (worked rule place) ran.was ∙ ap (placed place (points_of ran.before)) old.gives;
+          is = ap (worked rule place) ran.is ∙ ap (placed place (points_of ran.after)) w.gives;
           leads = w.leads;
           counts = counted_sum (points_of ran.after) (len w.new) done.points k total ran.counts (omega (arith, count, few)) e;
           patches = (ran.patches, w.long, w.few);

@@ -29,11 +29,11 @@ use Rattle.held_index.specs.declared.stop.Stop.{Stop}
 use Rattle.held_index.specs.declared.stop.Stop.TheVariants.{Range as StopRange, TooMany as StopTooMany, Memory as StopMemory}
 use Rattle.held_index.specs.declared.want.Want.{Want}
 use Rattle.transform_nodes.specs.Halts.{halted, wrong_in}
-use Rattle.transform_nodes.specs.Rules.{operator_of, wanted_of}
+use Rattle.operator_rules.specs.Rules.{wanted_of}
 use Rattle.transform_nodes.specs.Runs.{news_of, AllLeads, planned, IsPlannable, CanPlan, IsWork, IsWorked}
 use Rattle.transform_nodes.specs.declared.operate.Worked.{Worked}
-use Rattle.transform_nodes.specs.declared.rule.Rule.{Rule}
-use Rattle.transform_nodes.proofs.WantLemmas.{wanted_below}
+use Rattle.data_set_trees.specs.checked.Operators.{Operator}
+use Rattle.operator_rules.proofs.WantLemmas.{wanted_below}
 
 -- what is held of data sets is what is wanted of them
 pub wants-held : (zs : List DataSet) (ws : List Want) → map (λ h. h.want) (map (holding_of zs) ws) ≡ ws
@@ -130,33 +130,33 @@ many_answer (Made y) x h = absurd h
 many_answer (Range j) x h = absurd h
 many_answer TooMany x h = refl
 
-module _ (rule : Rule) (held : List Holding) (news : List Changes) (before : ℕ) (zs ys : List DataSet) (work : IsWork rule held news before zs ys) where
-  pub asked : AreAsked (AreOperands (operator_of rule).operands) (meaning_of (operator_of rule)) (wanted_of rule) held news before zs work.holds.made
+module _ (rule : Operator) (held : List Holding) (news : List Changes) (before : ℕ) (zs ys : List DataSet) (work : IsWork rule held news before zs ys) where
+  pub asked : AreAsked (AreOperands rule.operands) (meaning_of rule) (wanted_of rule) held news before zs work.holds.made
   asked = record {
     admitted = work.old_fit;
-    admitted_after = subst (λ (xs : List DataSet). AreOperands (operator_of rule).operands xs) (sym (leads-after news zs ys work.leads)) work.new_fit;
+    admitted_after = subst (λ (xs : List DataSet). AreOperands rule.operands xs) (sym (leads-after news zs ys work.leads)) work.new_fit;
     begins = leads-begin news zs ys work.leads;
     held_is = work.holds.sets;
     result_is = work.holds.gives;
     count = work.holds.count;
   }
 
-  pub can_plan : length news ≡ length (operator_of rule).operands → CanPlan (wanted_of rule) held news
+  pub can_plan : length news ≡ length rule.operands → CanPlan (wanted_of rule) held news
   can_plan long k w h l =
       let n : ℕ = (get_or (wanted_of rule) k w).operand in
       let below : n < length news = let b = wanted_below rule work.typed k w l in omega (arith, b, long) in
       let content : operand n zs ≡ (get_or held k h).content = ap (λ (x : Holding). x.content) (sym (get_or-map (holding_of zs) (wanted_of rule) k w h l) ∙ ap (λ (hs : List Holding). get_or hs k h) work.holds.sets) in
       let leads = leads_at n news zs ys work.leads below in
-      subst (λ (x : DataSet). IsPlannable (news_of n news) x) content (record { begins = leads.begins; few = let few = few_at n (operator_of rule).operands ys work.new_fit in let ends = ap len leads.ends in omega (arith, few, ends) })
+      subst (λ (x : DataSet). IsPlannable (news_of n news) x) content (record { begins = leads.begins; few = let few = few_at n rule.operands ys work.new_fit in let ends = ap len leads.ends in omega (arith, few, ends) })
 
   -- where the rule answers a delta, the work is right
-  pub work_right : (w : Worked) (d : Changes) → length news ≡ length (operator_of rule).operands → IsRight (meaning_of (operator_of rule) (after_news news zs)) work.holds.made (Made d)
+  pub work_right : (w : Worked) (d : Changes) → length news ≡ length rule.operands → IsRight (meaning_of rule (after_news news zs)) work.holds.made (Made d)
       → arc_value w.delta ≡ d → w.patches.items ≡ planned (wanted_of rule) held news → w.points ≡ count_after before d → IsWorked rule held ys work.holds.made w
   work_right w d long right delta patches points =
-      let m = made_answer (meaning_of (operator_of rule) ys) work.holds.made d (subst (λ (xs : List DataSet). IsRight (meaning_of (operator_of rule) xs) work.holds.made (Made d)) (leads-after news zs ys work.leads) right) in
+      let m = made_answer (meaning_of rule ys) work.holds.made d (subst (λ (xs : List DataSet). IsRight (meaning_of rule xs) work.holds.made (Made d)) (leads-after news zs ys work.leads) right) in
       let leads = m.leads in
       let count : len m.new ≡ w.points = ap len (sym leads.ends) ∙ len-apply-count key_cmp-IsTotalOrder key_cmp-IsAntisymmetric d work.holds.made before leads.begins work.holds.count ∙ sym points in
-      let fit = meaning_of-fits (operator_of rule) ys m.new work.typed work.new_fit m.gives in
+      let fit = meaning_of-fits rule ys m.new work.typed work.new_fit m.gives in
       let few = fit.few in
       let wants : List Want = wanted_of rule in
       let below = wanted_below rule work.typed in
@@ -175,14 +175,14 @@ module _ (rule : Rule) (held : List Holding) (news : List Changes) (before : ℕ
         few = omega (arith, few, count);
       }
 
-  pub work_range : (place : Place) (k : List Value) (n : ℕ) → IsRight (meaning_of (operator_of rule) (after_news news zs)) work.holds.made (Range k) → placed place n (meaning_of (operator_of rule) ys) ≡ Err (RangeAt place k)
-  work_range place k n right = ap (placed place n) (range_answer (meaning_of (operator_of rule) ys) work.holds.made k (subst (λ (xs : List DataSet). IsRight (meaning_of (operator_of rule) xs) work.holds.made (Range k)) (leads-after news zs ys work.leads) right))
+  pub work_range : (place : Place) (k : List Value) (n : ℕ) → IsRight (meaning_of rule (after_news news zs)) work.holds.made (Range k) → placed place n (meaning_of rule ys) ≡ Err (RangeAt place k)
+  work_range place k n right = ap (placed place n) (range_answer (meaning_of rule ys) work.holds.made k (subst (λ (xs : List DataSet). IsRight (meaning_of rule xs) work.holds.made (Range k)) (leads-after news zs ys work.leads) right))
 
-  pub work_many : (place : Place) (n : ℕ) → IsRight (meaning_of (operator_of rule) (after_news news zs)) work.holds.made TooMany → placed place n (meaning_of (operator_of rule) ys) ≡ Err (ManyAt place)
-  work_many place n right = ap (placed place n) (many_answer (meaning_of (operator_of rule) ys) work.holds.made (subst (λ (xs : List DataSet). IsRight (meaning_of (operator_of rule) xs) work.holds.made TooMany) (leads-after news zs ys work.leads) right))
+  pub work_many : (place : Place) (n : ℕ) → IsRight (meaning_of rule (after_news news zs)) work.holds.made TooMany → placed place n (meaning_of rule ys) ≡ Err (ManyAt place)
+  work_many place n right = ap (placed place n) (many_answer (meaning_of rule ys) work.holds.made (subst (λ (xs : List DataSet). IsRight (meaning_of rule xs) work.holds.made TooMany) (leads-after news zs ys work.leads) right))
 
   -- where it stops, the fault is that of its operator
-  pub work_stop : (place : Place) (stop : Stop) → IfSome (answer_of (Err stop)) (IsRight (meaning_of (operator_of rule) (after_news news zs)) work.holds.made) → IfSome (wrong_in (halted place stop)) (λ w. (n : ℕ) → placed place n (meaning_of (operator_of rule) ys) ≡ Err w)
+  pub work_stop : (place : Place) (stop : Stop) → IfSome (answer_of (Err stop)) (IsRight (meaning_of rule (after_news news zs)) work.holds.made) → IfSome (wrong_in (halted place stop)) (λ w. (n : ℕ) → placed place n (meaning_of rule ys) ≡ Err w)
   work_stop place (StopRange key) right = λ n. work_range place (arc_value key) n right
   work_stop place StopTooMany right = λ n. work_many place n right
   work_stop place StopMemory right = tt

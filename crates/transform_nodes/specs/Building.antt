@@ -1,5 +1,5 @@
 -- How nodes are built.
-use Rattle.std.specs.Prelude.{◌≡◌, ◌<◌, Bool, true, List, length, slice_get, slice_index_or, Option, Some}
+use Rattle.std.specs.Prelude.{◌≡◌, Bool, true, List, length, slice_get, Option, Some}
 use Rattle.std.specs.FinMap.{empty}
 use Rattle.std.specs.List.{All, AllZip, list_any}
 use Rattle.vtl_values.specs.declared.structure.Component.{Component}
@@ -9,7 +9,7 @@ use Rattle.data_set_trees.specs.checked.Expressions.{Expression, expression_of, 
 use Rattle.data_set_trees.specs.checked.Scripts.{is_same, names_in}
 use Rattle.data_set_trees.specs.checked.Typing.{HasStructure}
 use Rattle.built_scripts.specs.Built.{all_built}
-use Rattle.held_index.specs.Holdings.{Holding, FitsStructure}
+use Rattle.held_index.specs.Holdings.{Holding}
 use Rattle.held_index.specs.declared.want.Want.{Want}
 use Rattle.transform_nodes.specs.Trees.{Plain, expression, forgotten, IsFit, StandsOn}
 
@@ -49,11 +49,3 @@ AllCanBuild sources trees = All (λ tree. CanBuild sources (expression_of tree))
 
 abbrev pub AreBuilt : List Source → List DataSetTree → List Plain → Type 0
 AreBuilt sources trees ps = AllZip (λ tree p. IsBuilt sources (expression_of tree) p) trees ps
-
--- a want is of an operand that there is, and names components of that
-pub record IsWanted (w : Want) (operands : List (List Component)) : Type 0 where
-  pub below : w.operand < length operands
-  pub fits : (operand : List Component) → FitsStructure w (slice_index_or operands w.operand operand)
-
-abbrev pub AreWanted : List Want → List (List Component) → Type 0
-AreWanted wants operands = All (λ w. IsWanted w operands) wants

@@ -1,4 +1,3 @@
-pub mod Rules
 pub mod Faults
 pub mod Halts
 pub mod Trees
@@ -7,5 +6,4 @@ pub mod Runs
 pub mod Nodes
 pub mod Carrying
 pub mod Reach
-pub mod ReachLaws
 pub mod Building

@@ -8,10 +8,10 @@ use Rattle.operator_meaning.specs.Results.{Evaluated, Wrong, sets_of, results_of
 use Rattle.data_set_trees.specs.checked.Scripts.{Script}
 use Rattle.held_index.specs.Holdings.{Holding}
 use Rattle.transform_nodes.specs.Nodes.{numbered, settled_tree}
-use Rattle.transform_nodes.specs.Rules.{reach_of}
+use Rattle.operator_rules.specs.Rules.{reach_of}
 use Rattle.transform_nodes.specs.Runs.{Moves, IsRunnable, AreRunnable}
 use Rattle.transform_nodes.specs.Trees.{Plain, Plains, Source, Operates, none, more, plain, all_expressions}
-use Rattle.transform_nodes.specs.declared.rule.Rule.{Rule}
+use Rattle.data_set_trees.specs.checked.Operators.{Operator}
 use Rattle.transform_nodes.specs.declared.work.Work.{Work}
 
 -- the right delta of each operand
@@ -19,7 +19,7 @@ abbrev pub deltas_between : List DataSet → List DataSet → List Changes
 deltas_between old new = map (λ p. delta_between values_eq p.0 p.1) (zip old new)
 
 -- the reach of an operator whose operands come to this on the old and on the new inputs; where one has a fault the rule isn't asked
-abbrev pub own_reach : Rule → List Holding → Result (List Evaluated) Wrong → Result (List Evaluated) Wrong → ℕ
+abbrev pub own_reach : Operator → List Holding → Result (List Evaluated) Wrong → Result (List Evaluated) Wrong → ℕ
 own_reach rule held (Ok old) (Ok new) = reach_of rule held (deltas_between (sets_of old) (sets_of new))
 own_reach rule held (Ok old) (Err wrong) = 0
 own_reach rule held (Err wrong) new = 0

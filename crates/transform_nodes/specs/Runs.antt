@@ -10,21 +10,19 @@ use Rattle.data_model.specs.Outcomes.{Made}
 use Rattle.data_model.specs.declared.TheConstants.{POINT_LIMIT}
 use Rattle.point_sets.specs.DataSets.{DataSet}
 use Rattle.point_sets.specs.Changes.{Changes}
-use Rattle.data_set_trees.specs.checked.Operators.{IsTyped}
+use Rattle.data_set_trees.specs.checked.Operators.{IsTyped, Operator}
 use Rattle.data_set_trees.specs.checked.Typing.{HasStructure, HaveStructures}
 use Rattle.operator_meaning.specs.Operators.{meaning_of, AreOperands}
 use Rattle.structured_sets.specs.Fitting.{IsBoundedSetOf}
 use Rattle.operator_meaning.specs.Results.{Evaluated, sets_of, points_of, placed, result_of, results_of}
 use Rattle.held_index.specs.Holdings.{Holding}
 use Rattle.held_index.specs.declared.want.Want.{Want}
-use Rattle.transform_nodes.specs.Rules.{operator_of}
 use Rattle.transform_nodes.specs.Halts.{wrong_in}
 use Rattle.transform_nodes.specs.Trees.{Plain, Plains, plains_of, expression, all_expressions, counted, Holds, StandsOn, AllStandOn, applied, all_applied, HasPatches, AllHavePatches}
 use Rattle.transform_nodes.specs.declared.carry.Gathered.{Gathered}
 use Rattle.transform_nodes.specs.declared.carry.Ran.{Ran}
 use Rattle.transform_nodes.specs.declared.halt.Halt.{Halt}
 use Rattle.transform_nodes.specs.declared.operate.Worked.{Worked}
-use Rattle.transform_nodes.specs.declared.rule.Rule.{Rule}
 
 -- the change of an operand by its number
 abbrev pub news_of : ℕ → List Changes → Changes
@@ -53,28 +51,28 @@ abbrev pub CanPlan : List Want → List Holding → List Changes → Type 0
 CanPlan wants held news = (k : ℕ) (w : Want) (h : Holding) → k < length wants → IsPlannable (news_of (slice_index_or wants k w).operand news) (slice_index_or held k h).content
 
 -- operands zs on which the rule's operator has the points that were counted, of which this is held, and which the news lead to ys
-pub record IsWork (rule : Rule) (held : List Holding) (news : List Changes) (before : ℕ) (zs ys : List DataSet) : Type 0 where
-  pub typed : IsTyped (operator_of rule)
-  pub old_fit : AreOperands (operator_of rule).operands zs
-  pub new_fit : AreOperands (operator_of rule).operands ys
+pub record IsWork (rule : Operator) (held : List Holding) (news : List Changes) (before : ℕ) (zs ys : List DataSet) : Type 0 where
+  pub typed : IsTyped rule
+  pub old_fit : AreOperands rule.operands zs
+  pub new_fit : AreOperands rule.operands ys
   pub leads : AllLeads news zs ys
   pub holds : Holds rule zs held before
 
 -- an operator that was worked out: its delta leads from the result x to that on ys, and with the patches it holds what its rule wants of ys
-pub record IsWorked (rule : Rule) (held : List Holding) (ys : List DataSet) (x : DataSet) (w : Worked) : Type 0 where
+pub record IsWorked (rule : Operator) (held : List Holding) (ys : List DataSet) (x : DataSet) (w : Worked) : Type 0 where
   pub new : DataSet
-  pub gives : meaning_of (operator_of rule) ys ≡ Made new
+  pub gives : meaning_of rule ys ≡ Made new
   pub leads : Leads (arc_value w.delta) x new
   pub holds : Holds rule ys w.patches.items w.points
   pub long : length w.patches.items ≡ length held
   pub few : w.points ≤ POINT_LIMIT
 
-abbrev pub WorkAnswer : Rule → Place → List Holding → List DataSet → DataSet → Result Worked Halt → Type 0
+abbrev pub WorkAnswer : Operator → Place → List Holding → List DataSet → DataSet → Result Worked Halt → Type 0
 WorkAnswer rule place held ys x (Ok worked) = IsWorked rule held ys x worked
-WorkAnswer rule place held ys x (Err halt) = IfSome (wrong_in halt) (λ w. (n : ℕ) → placed place n (meaning_of (operator_of rule) ys) ≡ Err w)
+WorkAnswer rule place held ys x (Err halt) = IfSome (wrong_in halt) (λ w. (n : ℕ) → placed place n (meaning_of rule ys) ≡ Err w)
 
 -- whichever operands the work is for
-abbrev pub WorksRight : Rule → Place → List Holding → List Changes → ℕ → Result Worked Halt → Type 0
+abbrev pub WorksRight : Operator → Place → List Holding → List Changes → ℕ → Result Worked Halt → Type 0
 WorksRight rule place held news before answer = (zs ys : List DataSet) (work : IsWork rule held news before zs ys) → WorkAnswer rule place held ys work.holds.made answer
 
 -- ---- trees

@@ -9,17 +9,17 @@ use Rattle.data_set_trees.specs.checked.Expressions.{Expression, Expressions, Na
 use Rattle.held_index.specs.Holdings.{Holding, holding_of}
 use Rattle.operator_meaning.specs.Operators.{meaning_of}
 use Rattle.operator_meaning.specs.Results.{Wrong, Evaluated, sets_of, results_of}
-use Rattle.transform_nodes.specs.declared.rule.Rule.{Rule}
+use Rattle.data_set_trees.specs.checked.Operators.{Operator}
 use Rattle.transform_nodes.specs.declared.node.Child.{Child, fold-Child}
 use Rattle.transform_nodes.specs.declared.node.Child.TheOpen.{Child-F, OpTree-F}
 use Rattle.transform_nodes.specs.declared.node.OpTree.{OpTree}
-use Rattle.transform_nodes.specs.Rules.{operator_of, wanted_of}
+use Rattle.operator_rules.specs.Rules.{wanted_of}
 
 mutual
   -- the number of a source; or an operator with its rule, place and operands, what is held of them and the points of its result, and what is pending of these two
   pub data Plain : Type 0 where
     Source : ℕ → Plain
-    Operates : Rule → Place → Plains → List Holding → ℕ → List Holding → ℕ → Plain
+    Operates : Operator → Place → Plains → List Holding → ℕ → List Holding → ℕ → Plain
 
   pub data Plains : Type 0 where
     none : Plains
@@ -47,20 +47,20 @@ abbrev mutual
   -- the expression that a tree works out
   pub expression : Plain → Expression ℕ
   expression (Source n) = Named n
-  expression (Operates rule place ps held points pending pending_points) = Applied (operator_of rule) place (all_expressions ps)
+  expression (Operates rule place ps held points pending pending_points) = Applied rule place (all_expressions ps)
 
   pub all_expressions : Plains → Expressions ℕ
   all_expressions none = no_operand
   all_expressions (more p ps) = operand_and (expression p) (all_expressions ps)
 
 -- what is held is what the rule wants of the operands zs, and the rule's operator has a data set on them, of so many points
-pub record Holds (rule : Rule) (zs : List DataSet) (held : List Holding) (points : ℕ) : Type 0 where
+pub record Holds (rule : Operator) (zs : List DataSet) (held : List Holding) (points : ℕ) : Type 0 where
   pub sets : map (holding_of zs) (wanted_of rule) ≡ held
   pub made : DataSet
-  pub gives : meaning_of (operator_of rule) zs ≡ Made made
+  pub gives : meaning_of rule zs ≡ Made made
   pub count : len made ≡ points
 
-abbrev pub HoldsOn : Rule → Result (List Evaluated) Wrong → List Holding → ℕ → Type 0
+abbrev pub HoldsOn : Operator → Result (List Evaluated) Wrong → List Holding → ℕ → Type 0
 HoldsOn rule (Ok es) held points = Holds rule (sets_of es) held points
 HoldsOn rule (Err wrong) held points = ⊥
 
@@ -106,7 +106,7 @@ abbrev mutual
   -- the sources are below n, and each operator has the operands and the held sets that its rule wants
   pub IsFit : ℕ → Plain → Type 0
   IsFit n (Source k) = k < n
-  IsFit n (Operates rule place ps held points pending pending_points) = AllFit n ps × (count_of ps ≡ length (operator_of rule).operands) × (length held ≡ length (wanted_of rule)) × (points ≤ POINT_LIMIT)
+  IsFit n (Operates rule place ps held points pending pending_points) = AllFit n ps × (count_of ps ≡ length rule.operands) × (length held ≡ length (wanted_of rule)) × (points ≤ POINT_LIMIT)
 
   pub AllFit : ℕ → Plains → Type 0
   AllFit n none = ⊤

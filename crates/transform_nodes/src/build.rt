@@ -5,15 +5,16 @@ ghost use Rattle.std.specs.Option.{IfSome};
 ghost use Rattle.data_set_trees.specs.checked.Expressions.{expression_of, expressions, expression_of_node};
 ghost use Rattle.data_set_trees.specs.checked.Scripts as scripts;
 ghost use Rattle.data_set_trees.specs.checked.Scripts.{names_in, names_in_all, names_result};
-ghost use Rattle.transform_nodes.specs.Building.{is_among, nothing_held, AllCanBuild, AreBuilt, AreWanted, CanBuild, IsBuilt};
+ghost use Rattle.operator_rules.specs.Rules.{AreWanted};
+ghost use Rattle.transform_nodes.specs.Building.{is_among, nothing_held, AllCanBuild, AreBuilt, CanBuild, IsBuilt};
 ghost use Rattle.transform_nodes.specs.Nodes.{published};
 ghost use Rattle.transform_nodes.specs.Trees.{plain, plain_tree, plains_of, Operates};
 
 use crate::node::{Child, OpTree};
-use crate::rule::Rule;
 use data_set_trees::checked::CheckedStatement;
 use data_set_trees::{DataSetNode, DataSetTree, Source};
 use held_index::{DeltaRule, Held, Want};
+use operator_rules::OperatorRule;
 use release_text::Pages;
 use std::alloc::{AllocError, Global};
 use vtl_values::{Place, Structure};
@@ -164,7 +165,7 @@ fn tree_of(alloc: Global, node: &DataSetNode, sources: &[Source]) -> Result<OpTr
     ensures { IfOk result (λ tree. IsBuilt sources.now (expression_of_node node.now) (plain_tree tree)) }
 {
     let children = children_of(alloc, node.children.as_slice(), sources)?;
-    let rule = Rule::of(alloc, node)?;
+    let rule = OperatorRule::of(alloc, node)?;
     let held = nothing_held_of(alloc, rule.wants(), node.operands.as_slice())?;
     Ok(new_tree(alloc, rule, node.place, children, held))
 }
@@ -172,7 +173,7 @@ fn tree_of(alloc: Global, node: &DataSetNode, sources: &[Source]) -> Result<OpTr
 /// An operator without points, of which nothing is pending.
 fn new_tree(
     alloc: Global,
-    rule: Rule,
+    rule: OperatorRule,
     place: Place,
     children: Vec<Child>,
     held: Vec<Held>,

@@ -13,11 +13,9 @@ mod finish;
 mod halt;
 pub mod node;
 mod operate;
-pub mod rule;
 mod settle;
 pub mod work;
 
 pub use fault::NodeFault;
 pub use node::{Child, Node, OpTree};
-pub use rule::Rule;
 pub use work::{Done, DoneParts, Finish, Settle, Work};

@@ -3,12 +3,12 @@ ghost use Rattle.std.specs.Prelude.{◌≡◌, ◌<◌, IfOk, map, length};
 ghost use Rattle.std.specs.FinMap.{empty};
 
 use crate::build::{child_of, first_pages, sources_of, uses_of};
-use crate::rule::Rule;
 use crate::settle::settle_child;
 use crate::work::Settle;
 use built_scripts::CheckedScript;
 use data_set_trees::Source;
 use held_index::{Held, Patch};
+use operator_rules::OperatorRule;
 use release_text::Pages;
 use sqlite_items::Items;
 use std::alloc::{AllocError, Global};
@@ -27,7 +27,7 @@ pub enum Child {
 #[cycle(tree)]
 #[derive(Drop)]
 pub struct OpTree {
-    pub rule: Rule,
+    pub rule: OperatorRule,
     pub place: Place,
     pub children: Vec<Child>,
     pub held: Vec<Held>,
@@ -38,7 +38,6 @@ pub struct OpTree {
 
 /// A statement of a script, by its number: what it names, each once; how many statements name its result; its tree;
 /// and, where it is published, its pages, and those that are pending since the last work.
-#[derive(Drop)]
 pub struct Node {
     pub statement: u64,
     pub sources: Items<Source>,
@@ -46,6 +45,20 @@ pub struct Node {
     pub tree: Child,
     pub pages: Option<Pages>,
     pub pending_pages: Option<Pages>,
+}
+
+// Written out, so that who drops one calls this and doesn't go through what is in it.
+impl Drop for Node {
+    fn drop(self) {
+        let Node {
+            statement: _,
+            sources: _,
+            uses: _,
+            tree: _,
+            pages: _,
+            pending_pages: _,
+        } = self;
+    }
 }
 
 impl Node {

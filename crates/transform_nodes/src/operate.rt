@@ -3,15 +3,15 @@ ghost use Rattle.std.specs.Prelude.{◌≡◌, ◌+◌, ◌≤◌, ◌<◌, ◌&
 ghost use Rattle.std.specs.Arc.{arc_value};
 ghost use Rattle.data_model.specs.Deltas.{count_after};
 ghost use Rattle.point_sets.specs.DataSets.{DataSet};
-ghost use Rattle.transform_nodes.specs.Rules.{operator_of, reach_of, wanted_of};
+ghost use Rattle.operator_rules.specs.Rules.{reach_of, wanted_of};
 ghost use Rattle.transform_nodes.specs.Runs.{planned, CanPlan, IsWork, WorksRight};
 ghost use denote.Param.Send.{IsSync};
 
 use crate::halt::Halt;
-use crate::rule::Rule;
 use data_model::POINT_LIMIT;
 use data_model::steps::Steps;
 use held_index::{DeltaRule, Held, Patch, Want};
+use operator_rules::OperatorRule;
 use point_sets::{Change, Delta};
 use std::alloc::{AllocError, Global};
 use std::sync::Arc;
@@ -51,7 +51,7 @@ fn plan_all(
 pub(crate) fn work<R: Threads + Sync, L: Ledger>(
     rt: &R,
     alloc: Global,
-    rule: &Rule,
+    rule: &OperatorRule,
     place: Place,
     held: &[Held],
     before: u64,
@@ -60,7 +60,7 @@ pub(crate) fn work<R: Threads + Sync, L: Ledger>(
 ) -> Result<Worked, Halt>
     requires sync { IsSync R.row }
     requires held { length held.now ≡ length (wanted_of rule.now) }
-    requires news { length news.now ≡ length (operator_of rule.now).operands }
+    requires news { length news.now ≡ length rule.now.operands }
     requires few { before ≤ POINT_LIMIT }
     requires can { (zs ys : List DataSet) × IsWork rule.now held.now (map arc_value news.now) before zs ys }
     ensures right { WorksRight rule.now place held.now (map arc_value news.now) before result }

@@ -9,9 +9,9 @@ use Rattle.data_set_trees.specs.checked.Expressions.{Expression, Named, expressi
 use Rattle.vtl_values.specs.declared.structure.Component.{Component}
 use Rattle.data_set_trees.specs.checked.Operators.{an_operator, Operator, IsTyped}
 use Rattle.held_index.specs.declared.want.Want.{Want}
-use Rattle.transform_nodes.specs.Rules.{operator_of, wanted_of}
-use Rattle.transform_nodes.proofs.WantLemmas.{rule-wanted}
-use Rattle.transform_nodes.specs.Building.{nothing_held, AllCanBuild, AreBuilt, AreWanted, IsBuilt}
+use Rattle.operator_rules.specs.Rules.{AreWanted, wanted_of}
+use Rattle.operator_rules.proofs.WantLemmas.{rule-wanted}
+use Rattle.transform_nodes.specs.Building.{nothing_held, AllCanBuild, AreBuilt, IsBuilt}
 use Rattle.transform_nodes.specs.Trees.{Plain, plain}
 use Rattle.transform_nodes.specs.declared.node.Child.TheVariants.{Name}
 use Rattle.transform_nodes.proofs.PlainLemmas.{plain-Name}
@@ -41,7 +41,7 @@ tree_of-nothing_held_of-requires t c =
     let o : Operator = an_operator node.operator node.operands node.structure in
     let typed : IsTyped o = c.requires.typed.typed.1 in
     let rule = c.in_ok-rule.rule in
-    let is : operator_of rule ≡ o = c.in_ok-rule.ensures in
+    let is : rule ≡ o = c.in_ok-rule.ensures in
     let wanted = rule-wanted rule (subst (λ (q : Operator). IsTyped q) (sym is) typed) in
     subst (λ (ws : List Want). AreWanted ws c.as_slice-2.result.now) (sym c.wants.ensures)
     (subst (λ (ss : List (List Component)). AreWanted (wanted_of rule) ss) (ap (λ (q : Operator). q.operands) is ∙ sym c.as_slice-2.ensures) wanted)

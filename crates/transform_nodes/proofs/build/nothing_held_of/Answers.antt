@@ -2,7 +2,7 @@ use Rattle.std.proofs.Common.{List, sym, subst}
 use Rattle.vtl_values.specs.declared.structure.Component.{Component}
 use Rattle.held_index.specs.Holdings.{FitsStructure}
 use Rattle.held_index.specs.declared.want.Want.{Want}
-use Rattle.transform_nodes.specs.Building.{IsWanted}
+use Rattle.operator_rules.specs.Rules.{IsWanted}
 use Rattle.transform_nodes.proofs.build.nothing_held_of.Goals as goal
 
 pub empty-requires : goal.empty-requires

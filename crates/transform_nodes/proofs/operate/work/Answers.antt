@@ -4,9 +4,9 @@ use Rattle.std.proofs.lemmas.List.{length-map}
 use Rattle.std.specs.Arc.{arc_value}
 use Rattle.held_index.specs.declared.want.Want.{Want}
 use Rattle.held_index.specs.Holdings.{Holding}
-use Rattle.transform_nodes.specs.Rules.{wanted_of}
+use Rattle.operator_rules.specs.Rules.{wanted_of}
 use Rattle.transform_nodes.specs.Runs.{planned, CanPlan}
-use Rattle.transform_nodes.proofs.WantLemmas.{wanted_below}
+use Rattle.operator_rules.proofs.WantLemmas.{wanted_below}
 use Rattle.transform_nodes.proofs.WorkLemmas.{wants-held, asked, can_plan, work_right, work_stop}
 use Rattle.transform_nodes.proofs.operate.work.Goals as goal
 

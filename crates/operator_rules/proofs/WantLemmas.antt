@@ -1,15 +1,14 @@
 -- What rules want fits the structures of their operands.
-use Rattle.std.proofs.Common.{◌≡◌, ◌<◌, ◌≤◌, ℕ, Bool, true, false, not, List, [], ◌∷◌, length, Option, Some, None, refl, ap, subst, sym, inl, inr, if◌then◌else◌, arith}
-use Rattle.std.specs.List.{All, filter, filter_map, position, slice_index_or}
-use Rattle.std.proofs.lemmas.Bool.{cases_Bool}
+use Rattle.std.proofs.Common.{◌≡◌, ◌<◌, ◌≤◌, ℕ, Bool, true, false, not, List, [], ◌∷◌, length, Option, Some, None, refl, subst, sym, if◌then◌else◌, arith}
+use Rattle.std.specs.List.{All, filter_map, position, slice_index_or}
 use Rattle.std.proofs.lemmas.List.Elements.{All-nil, All-cons, All-weaker}
 use Rattle.std.proofs.lemmas.List.Filters.{length-filter_both}
 use Rattle.std.proofs.lemmas.List.Quantifiers.{position-Some}
 use Rattle.vtl_values.specs.declared.kind.Role.TheVariants.{Identifier}
 use Rattle.vtl_values.specs.declared.structure.Component.{Component}
 use Rattle.data_set_trees.specs.clauses.Frames.{has_role}
-use Rattle.data_set_trees.specs.declared.clauses.clause.CheckedMeasure.{CheckedMeasure}
 use Rattle.vtl_syntax.specs.declared.words.ExistsRows.{ExistsRows}
+use Rattle.vtl_syntax.specs.declared.words.JoinFunction.{JoinFunction}
 use Rattle.vtl_syntax.specs.declared.words.JoinFunction.TheVariants as joining
 use Rattle.data_set_trees.specs.Components.{identifiers, has_name}
 use Rattle.data_set_trees.specs.declared.tree.DataSetOperator.{DataSetOperator}
@@ -27,10 +26,7 @@ use Rattle.exists_ops.specs.Rules as exists
 use Rattle.exists_ops.proofs.Wanted.{left-fits, right-fits}
 use Rattle.inner_joins.specs.Rules as inner
 use Rattle.inner_joins.proofs.Wanted.{inner-on, wants-fit, wants-there}
-use Rattle.transform_nodes.specs.Building.{AreWanted, IsWanted}
-use Rattle.transform_nodes.specs.Rules.{operator_of, wanted_of}
-use Rattle.transform_nodes.specs.declared.rule.Rule.{Rule}
-use Rattle.transform_nodes.specs.declared.rule.Rule.TheVariants.{Clause, Pair, Choice, Exists, Set, OuterJoin, InnerJoin, CrossJoin}
+use Rattle.operator_rules.specs.Rules.{AreWanted, IsWanted, wanted_by, wanted_by_join, wanted_of}
 
 number-below : (s : List Component) (c : Component) (cs : List Component) (n : ℕ) → length s ≤ n → (o : Option ℕ) → position (has_name c.name) s ≡ o
     → All (λ k. k < n) (filter_map (λ d. position (has_name d.name) s) cs) → All (λ k. k < n) (filter_map (λ d. position (has_name d.name) s) (c ∷ cs))
@@ -104,19 +100,26 @@ inner-wanted (operator.Join joining.Inner) operands structure typed =
     λ k d within. record { below = wants-there (inner.join_in o) on k d within; fits = wants-fit (inner.join_in o) on k d within }
 inner-wanted _ operands structure typed = All-nil (λ w. IsWanted w operands)
 
+join-wanted : (function : JoinFunction) (operands : List (List Component)) (structure : List Component) → IsTyped (an_operator (operator.Join function) operands structure)
+    → AreWanted (wanted_by_join function (an_operator (operator.Join function) operands structure)) operands
+join-wanted joining.Inner operands structure typed = inner-wanted (operator.Join joining.Inner) operands structure typed
+join-wanted joining.Left operands structure typed = all-wanted operands
+join-wanted joining.Full operands structure typed = all-wanted operands
+join-wanted joining.Cross operands structure typed = all-wanted operands
+
+operator-wanted : (o : DataSetOperator) (operands : List (List Component)) (structure : List Component) → IsTyped (an_operator o operands structure) → AreWanted (wanted_by o (an_operator o operands structure)) operands
+operator-wanted (operator.Pair items) operands structure typed = pairs-wanted (operator.Pair items) operands structure typed.takes
+operator-wanted (operator.Choice holds fails measures) operands structure typed = all-wanted operands
+operator-wanted (operator.ExistsIn rows) operands structure typed = exists-wanted (operator.ExistsIn rows) operands structure
+operator-wanted (operator.Set operation) operands structure typed = all-wanted operands
+operator-wanted (operator.Join function) operands structure typed = join-wanted function operands structure typed
+operator-wanted _ operands structure typed = All-nil (λ w. IsWanted w operands)
+
 -- what a rule wants of its operator's operands
-pub rule-wanted : (rule : Rule) → IsTyped (operator_of rule) → AreWanted (wanted_of rule) (operator_of rule).operands
-unfolding operator_of wanted_of
-rule-wanted (Clause rule) typed = All-nil (λ w. IsWanted w rule.operands)
-rule-wanted (Pair rule) typed = pairs-wanted rule.operator rule.operands rule.structure typed.takes
-rule-wanted (Choice rule) typed = all-wanted rule.operands
-rule-wanted (Exists rule) typed = exists-wanted rule.operator rule.operands rule.structure
-rule-wanted (Set rule) typed = all-wanted rule.operands
-rule-wanted (OuterJoin rule) typed = all-wanted rule.operands
-rule-wanted (InnerJoin rule) typed = inner-wanted rule.operator rule.operands rule.structure typed
-rule-wanted (CrossJoin rule) typed = all-wanted rule.operands
+pub rule-wanted : (o : Operator) → IsTyped o → AreWanted (wanted_of o) o.operands
+unfolding wanted_of
+rule-wanted o typed = operator-wanted o.operator o.operands o.structure typed
 
 -- a rule wants operands that its operator has
-pub wanted_below : (rule : Rule) → IsTyped (operator_of rule) → All (λ w. w.operand < length (operator_of rule).operands) (wanted_of rule)
-wanted_below rule typed =
-    All-weaker (λ w. IsWanted w (operator_of rule).operands) (λ w. w.operand < length (operator_of rule).operands) (λ w wanted. wanted.below) (wanted_of rule) (rule-wanted rule typed)
+pub wanted_below : (o : Operator) → IsTyped o → All (λ w. w.operand < length o.operands) (wanted_of o)
+wanted_below o typed = All-weaker (λ w. IsWanted w o.operands) (λ w. w.operand < length o.operands) (λ w wanted. wanted.below) (wanted_of o) (rule-wanted o typed)

@@ -1,0 +1,2 @@
+mod FamilyLemmas
+pub mod WantLemmas
