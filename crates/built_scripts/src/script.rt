@@ -7,9 +7,15 @@ use std::marker::Model;
 use vtl_values::Structures;
 
 /// A script that may be run: its operators are well typed and built. Contracts see it as the typed script.
-#[derive(Drop)]
 pub struct CheckedScript {
     typed: TypedScript,
+}
+
+// Written out, so that who drops one calls this and doesn't go through what is in it.
+impl Drop for CheckedScript {
+    fn drop(self) {
+        let CheckedScript { typed: _ } = self;
+    }
 }
 
 impl Model for CheckedScript {

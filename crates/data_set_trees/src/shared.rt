@@ -7,9 +7,15 @@ use std::marker::Model;
 use std::sync::Arc;
 
 /// An operator on data sets, which its copies share: those who work it out keep it as it is. Contracts see the operator.
-#[derive(Drop)]
 pub struct SharedOperator {
     operator: Arc<DataSetOperator>,
+}
+
+// Written out, so that who drops one calls this and doesn't go through what is in it.
+impl Drop for SharedOperator {
+    fn drop(self) {
+        let SharedOperator { operator: _ } = self;
+    }
 }
 
 impl Model for SharedOperator {

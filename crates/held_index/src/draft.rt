@@ -18,10 +18,19 @@ use std::sync::Arc;
 
 /// What a rule notes on the way to its answer: changes of the result, and the least key at which an evaluation is out
 /// of range. Notes come in any order, and repeats do no harm.
-#[derive(Drop)]
 pub struct Draft {
     changes: Notes,
     beyond: Option<Key>,
+}
+
+// Written out, so that who drops one calls this and doesn't go through what is in it.
+impl Drop for Draft {
+    fn drop(self) {
+        let Draft {
+            changes: _,
+            beyond: _,
+        } = self;
+    }
 }
 
 impl Model for Draft {

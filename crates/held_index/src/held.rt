@@ -24,9 +24,15 @@ use vtl_values::Structure;
 /// An operand as an operator wants it. Contracts see what is wanted, and the content, the map from keys to the other
 /// values; the points are walked part by part, in each part by the order and then the key. The length of a descent
 /// isn't counted, steps are.
-#[derive(Drop)]
 pub struct Held {
     walk: Walk,
+}
+
+// Written out, so that who drops one calls this and doesn't go through what is in it.
+impl Drop for Held {
+    fn drop(self) {
+        let Held { walk: _ } = self;
+    }
 }
 
 impl Model for Held {

@@ -40,9 +40,15 @@ struct Held {
 
 /// The published data set of a statement, with its text held whole. Contracts see the name, the components and the set
 /// of points. Copies share what is held, so they are cheap, and the text is written without memory.
-#[derive(Drop)]
 pub struct Pages {
     held: Arc<Held>,
+}
+
+// Written out, so that who drops one calls this and doesn't go through what is in it.
+impl Drop for Pages {
+    fn drop(self) {
+        let Pages { held: _ } = self;
+    }
 }
 
 impl Model for Pages {

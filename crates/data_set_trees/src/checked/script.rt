@@ -17,11 +17,21 @@ pub struct CheckedStatement {
 
 /// A script whose structures are worked out: the structures of its inputs, its statements in the order of the script, and
 /// an order of them in which operands come first. Contracts see it as these three.
-#[derive(Drop)]
 pub struct TypedScript {
     inputs: Structures,
     statements: Items<CheckedStatement>,
     order: Items<u64>,
+}
+
+// Written out, so that who drops one calls this and doesn't go through what is in it.
+impl Drop for TypedScript {
+    fn drop(self) {
+        let TypedScript {
+            inputs: _,
+            statements: _,
+            order: _,
+        } = self;
+    }
 }
 
 impl Model for TypedScript {
