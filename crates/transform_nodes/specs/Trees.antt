@@ -16,7 +16,7 @@ use Rattle.transform_nodes.specs.declared.node.OpTree.{OpTree}
 use Rattle.operator_rules.specs.Rules.{wanted_of}
 
 mutual
-  -- the number of a source; or an operator with its rule, place and operands, what is held of them and the points of its result, and what is pending of these two
+  -- the number of a source; or an operator with its place and operands, what is held of them and the points of its result, and what is pending of these two
   pub data Plain : Type 0 where
     Source : ℕ → Plain
     Operates : Operator → Place → Plains → List Holding → ℕ → List Holding → ℕ → Plain
@@ -53,7 +53,7 @@ abbrev mutual
   all_expressions none = no_operand
   all_expressions (more p ps) = operand_and (expression p) (all_expressions ps)
 
--- what is held is what the rule wants of the operands zs, and the rule's operator has a data set on them, of so many points
+-- what is held is what the operator's rule wants of the operands zs, and the operator has a data set on them, of so many points
 pub record Holds (rule : Operator) (zs : List DataSet) (held : List Holding) (points : ℕ) : Type 0 where
   pub sets : map (holding_of zs) (wanted_of rule) ≡ held
   pub made : DataSet
