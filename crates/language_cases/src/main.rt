@@ -1,44 +1,53 @@
-//! Cases of the language: the tokens of scripts, their trees with places, their printed texts, and their faults.
+//! Cases of the language: scripts and their faults, scalar expressions, and expressions on data sets.
 //!
-//! `data/` holds the scripts, a section each, and `stdout` what must come of them by the rules that their files name.
-//! The first word of a title says what is written of its script, where it is one:
-//!
-//! - `tokens`: its tokens with their places;
-//! - `tree`: its forms with their places;
-//! - `script`: its printed text, and whether that is read back as a script of the same text;
-//! - `count`: how many statements, rulesets and operators it has, of which it has some.
+//! `data/` holds the cases, and `stdout` what must come of them by the rules that their files name. The folder of a file
+//! says of what its cases are, and the module of the same name what is written of them.
 #![tactic(auto)]
 
-mod answers;
-mod endings;
-mod fields;
-mod forms;
-mod own_words;
-mod parts;
+mod data_sets;
+mod expressions;
+mod parsing;
 mod scripts;
+mod words;
 
-use anyhow::Result;
-use case_sections::{Section, sections};
-use std::{env, fs, str};
+use anyhow::{Result, bail};
+use case_files::lines::answer_file;
+use serde_json::Value as Json;
+use std::alloc::Global;
+use std::rt::Files;
+use std::{env, fs};
+use structure_files::read_structures;
+use vtl_values::Structures;
 
-fn answer_section(rt: &(impl AllocGlobal + Print), section: &Section) -> Result<()> {
-    let (title, body) = (section.title.as_str(), section.body.as_slice());
-    if title.is_empty() {
-        let rule = str::from_utf8(body)?;
-        print!(rt; "{rule}")?;
-        return Ok(());
+fn answer_cases<R: AllocGlobal + Files + Print>(
+    rt: &R,
+    name: &str,
+    structures: &Structures,
+) -> Result<()> {
+    let Some((folder, _)) = name.split_once("/") else {
+        bail!("{name} is in no folder");
+    };
+    match folder {
+        "scripts" => scripts::answer_scripts(rt, name),
+        "expressions" => answer_file(rt, name, &expressions::answer),
+        "data_sets" => answer_file(
+            rt,
+            name,
+            &|alloc: Global, text: &str, words: &[Json]| {
+                data_sets::answer(alloc, structures, text, words)
+            },
+        ),
+        _ => bail!("no cases of {folder}"),
     }
-    let answered = answers::answer(rt.alloc(), title, body)?;
-    println!(rt; "==== {title}\n{answered}")?;
-    Ok(())
 }
 
 fn main(rt: HostRuntime) -> Result<()> {
+    let bytes = fs::read(&rt, "structures.json")?;
+    let Ok(structures) = read_structures(rt.alloc(), bytes.as_slice()) else {
+        bail!("no structures");
+    };
     for name in env::args(&rt)?.skip(1) {
-        let bytes = fs::read(&rt, name.as_str())?;
-        for section in &sections(rt.alloc(), bytes.as_slice())? {
-            answer_section(&rt, section)?;
-        }
+        answer_cases(&rt, name.as_str(), &structures)?;
     }
     Ok(())
 }

@@ -1,6 +1,6 @@
 // Arithmetic on numbers, which are given as they are written in fields.
 use anyhow::{Result, bail};
-use case_lines::{integer_at, text_at};
+use case_files::lines::{integer_at, text_at};
 use serde_json::Value as Json;
 use std::alloc::Global;
 use vtl_decimals::{Range, add, ceil, div, floor, mean, modulo, mul, ratio, round, sub, trunc};

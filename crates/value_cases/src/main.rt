@@ -1,23 +1,26 @@
-//! Cases of values: how they are read, written and ordered, arithmetic on numbers, operators on texts, patterns,
-//! the combination of viral codes, and structure files.
+//! Cases of values and of data: how values are read, written and ordered, arithmetic on numbers, operators on texts,
+//! patterns, the combination of viral codes, structure files, and held operands.
 //!
 //! `data/` holds the cases, and `stdout` what must come of them by the rules that their files name.
 #![tactic(auto)]
 
 mod decimals;
+mod held;
 mod structures;
 mod texts;
 mod values;
 mod viral;
 
 use anyhow::{Result, bail};
-use case_lines::answer_files;
+use case_files::lines::answer_file;
 use serde_json::Value;
 use std::alloc::Global;
+use std::env;
 
 // The answer of the call that a case names.
 fn answer(alloc: Global, call: &str, words: &[Value]) -> Result<String> {
     match call {
+        "held" => held::answer(alloc, words),
         "read" => values::read(alloc, words),
         "order" => values::order(alloc, words),
         "combine" => viral::combined(alloc, words),
@@ -46,5 +49,8 @@ fn text_answer(alloc: Global, call: &str, words: &[Value]) -> Result<String> {
 }
 
 fn main(rt: HostRuntime) -> Result<()> {
-    answer_files(&rt, &answer)
+    for name in env::args(&rt)?.skip(1) {
+        answer_file(&rt, name.as_str(), &answer)?;
+    }
+    Ok(())
 }

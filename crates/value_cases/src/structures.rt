@@ -1,6 +1,6 @@
 // Structure files.
 use anyhow::{Result, bail};
-use case_lines::integer_at;
+use case_files::lines::integer_at;
 use serde_json::Value as Json;
 use std::alloc::{AllocError, Global};
 use structure_files::{StructureStop, read_structures};

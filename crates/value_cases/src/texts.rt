@@ -1,6 +1,6 @@
 // Operators on texts. What they give is written in quotes, so that blanks are seen.
 use anyhow::{Result, bail};
-use case_lines::{integer_at, text_at};
+use case_files::lines::{integer_at, text_at};
 use scalar_texts::{
     Pattern, PatternStop, concat, instr, length, lower, ltrim, replace, rtrim, substr, trim, upper,
 };

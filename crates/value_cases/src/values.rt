@@ -1,6 +1,6 @@
 // Values: how they are read, written and ordered.
 use anyhow::{Result, bail};
-use case_lines::text_at;
+use case_files::lines::text_at;
 use serde_json::Value as Json;
 use std::alloc::Global;
 use std::cmp::Ordering;

@@ -3,7 +3,7 @@ ghost use Rattle.std.specs.Prelude.{◌≡◌, ◌≢◌, ◌↔◌, ◌∷◌, 
 ghost use Rattle.viral_attributes.specs.Combination.{IsCodeOrNull};
 
 use anyhow::{Result, bail};
-use case_lines::{list_at, text_at};
+use case_files::lines::{list_at, text_at};
 use serde_json::Value as Json;
 use sqlite_items::Items;
 use std::alloc::{AllocError, Global};

@@ -1,4 +1,0 @@
-use Rattle.index_cases.proofs.answer.Given as goal
-
-abbrev pub ghosts-steps_text : goal.ghosts-steps_text
-ghosts-steps_text a = record { name = a.blank.name; parts = a.blank.parts }

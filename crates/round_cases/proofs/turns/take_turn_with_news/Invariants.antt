@@ -1,4 +1,0 @@
-use Rattle.round_cases.proofs.turns.take_turn_with_news.Given as goal
-
-abbrev pub ghosts-run_work : goal.ghosts-run_work
-ghosts-run_work g a = record { name = a.blank.name; parts = a.blank.parts }
