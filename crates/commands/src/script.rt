@@ -1,8 +1,9 @@
 // The stages of the script.
 ghost use Rattle.std.specs.Prelude.{◌≡◌, ◌≤◌, ◌++◌, length, string_bytes, IfOk, IfErr, Ok};
 ghost use Rattle.vtl_tokens.specs.Keywords.{word_of};
-ghost use Rattle.vtl_parser.specs.Parses.{answered, fault_of, IsEnded};
+ghost use Rattle.vtl_parser.specs.Parses.{answered, fault_of};
 ghost use Rattle.vtl_lexer.specs.Texts.{tokens_of};
+ghost use Rattle.vtl_lexer.specs.Tokens.{AreOfText};
 ghost use Rattle.commands.specs.Ends.{Gives, IsRefusal, Refuses};
 ghost use Rattle.commands.specs.Scripts.{lex_line, fault_line, left_out, refused_at, refused_script, told_tokens, told_tree, script_of};
 
@@ -13,8 +14,7 @@ use crate::typing::structures_of;
 use data_set_trees::checked::TypedScript;
 use std::alloc::{AllocError, Global};
 use vtl_lexer::{LexFault, LexStop, tokens};
-use vtl_parser::{ParseFault, ParseStop, parse};
-use vtl_syntax::Script;
+use vtl_parser::{ParseFault, ParseStop, ParsedScript, parse};
 use vtl_tokens::{Keyword, Token};
 use vtl_values::{Place, Structures};
 
@@ -30,7 +30,7 @@ pub fn typed_script(alloc: Global, structures: Structures, text: &[u8]) -> Resul
 {
     let tokens = read_tokens(alloc, text)?;
     let script = read_tree(alloc, tokens.as_slice())?;
-    let written = written_out(alloc, &script)?;
+    let written = written_out(alloc, script.script())?;
     structures_of(alloc, &written, structures)
 }
 
@@ -38,7 +38,7 @@ pub fn typed_script(alloc: Global, structures: Structures, text: &[u8]) -> Resul
 fn read_tokens(alloc: Global, text: &[u8]) -> Result<Vec<Token>, Stop>
     requires { length text.now ≤ SCRIPT_LIMIT }
     ensures go { IfOk result (λ tokens. tokens_of text.now ≡ Ok tokens.items) }
-    ensures ended { IfOk result (λ tokens. IsEnded tokens.items) }
+    ensures of_text { IfOk result (λ tokens. AreOfText tokens.items) }
     ensures end { IfErr result (λ stop. Refuses stop (told_tokens (tokens_of text.now))) }
     ensures kind { IfErr result IsRefusal }
 {
@@ -50,10 +50,9 @@ fn read_tokens(alloc: Global, text: &[u8]) -> Result<Vec<Token>, Stop>
 }
 
 /// The tree that the tokens of a text are.
-fn read_tree(alloc: Global, tokens: &[Token]) -> Result<Script, Stop>
-    requires { IsEnded tokens.now }
+fn read_tree(alloc: Global, tokens: &[Token]) -> Result<ParsedScript, Stop>
+    requires { AreOfText tokens.now }
     ensures go { IfOk result (λ script. told_tree (answered tokens.now) ≡ Ok script) }
-    ensures few { IfOk result (λ script. length script.statements ≤ 256) }
     ensures end { IfErr result (λ stop. Refuses stop (told_tree (answered tokens.now))) }
     ensures kind { IfErr result IsRefusal }
 {

@@ -7,7 +7,6 @@ use vtl_syntax::Script;
 
 /// The script of one statement, whose expression stands alone on the second line, so its columns are those of the case,
 /// and of rulesets on the next one.
-#[tactic(auto, using(vtl_parser::proofs::Ended::ended))]
 pub fn script_of(alloc: Global, expression: &str, rulesets: &str) -> Result<Script> {
     let text = format!(in alloc; "R <-\n{expression};\n{rulesets}")?;
     let bytes = text.as_bytes();
@@ -18,7 +17,7 @@ pub fn script_of(alloc: Global, expression: &str, rulesets: &str) -> Result<Scri
         bail!("no tokens");
     };
     match parse(alloc, list.as_slice()) {
-        Ok(script) => Ok(script),
+        Ok(script) => Ok(script.into_script()),
         Err(_) => bail!("no expression"),
     }
 }

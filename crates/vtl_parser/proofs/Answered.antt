@@ -7,18 +7,20 @@ use Rattle.vtl_values.specs.declared.place.Place.{Place}
 use Rattle.vtl_tokens.specs.declared.token.Token.{Token}
 use Rattle.vtl_tokens.specs.declared.token.TokenKind.{TokenKind}
 use Rattle.vtl_tokens.specs.declared.token.TokenKind.TheVariants.{End}
+use Rattle.vtl_lexer.specs.Tokens.{AreOfText}
 use Rattle.vtl_syntax.specs.declared.script.Script.{Script}
 use Rattle.vtl_grammar.specs.Marks.{Tokens}
 use Rattle.vtl_grammar.specs.Rules.{first_place}
 use Rattle.vtl_grammar.specs.Faults as faults
 use Rattle.vtl_grammar.specs.Faults.{Fault, IsParsed}
-use Rattle.vtl_grammar.specs.Reading.{Kind, Expected, TooDeep, TooMany, Got, Halt, Read, halt, got}
+use Rattle.vtl_grammar.specs.Reading.{Kind, Expected, TooDeep, TooMany, Got, Read, halt, got}
 use Rattle.vtl_grammar.specs.Laws.{read_whole, Answers, passes_last}
 use Rattle.vtl_grammar.proofs.GrammarLaws.{reads_rightly}
 use Rattle.vtl_grammar.specs.Parsed as meant
 use Rattle.vtl_grammar.specs.Parsed.{word_in, expected_or_left_out, unexpected, before, parsed, told_by}
 use Rattle.vtl_grammar.proofs.ParsedLaw.{parses_rightly, parses_all}
 use Rattle.vtl_parser.specs.Scripts.{levelless, whole_read}
+use Rattle.vtl_parser.specs.OfText.{IsOfText}
 use Rattle.vtl_parser.specs.Parses.{IsEnded, IsOnly, IsParsedAs, answered, before_end, only_end, placed_by}
 
 -- ---- the answer
@@ -38,6 +40,10 @@ answered-only ts other = (only other, (λ e. subst (IsParsedAs ts) (sym e) (by_p
 
 pub only-is : (ts : Tokens) (answer : Result Script (Fault × Place)) → answered ts ≡ answer → IsOnly ts answer
 only-is ts answer e = subst (IsOnly ts) e (answered-only ts)
+
+-- a script that tokens of a text are has a text
+pub of-text : (ts : Tokens) (s : Script) → AreOfText ts → answered ts ≡ Ok s → IsOfText s
+of-text ts s are e = record { tokens = ts; of_text = are; is_script = (only-is ts (Ok s) e (Ok s)).1 refl }
 
 -- ---- what reading without levels says
 

@@ -3,6 +3,7 @@ pub mod Forms
 pub mod Joins
 pub mod Scripts
 pub mod Parses
+pub mod OfText
 pub mod RuleParts
 pub mod Nested
 pub mod Operands

@@ -1,5 +1,5 @@
 -- Scripts, as the parser reads them piece by piece.
-use Rattle.std.specs.Prelude.{◌≡◌, ◌≤◌, ◌<◌, ℕ, ◌+◌, ◌-◌, suc, length, List, ◌++◌, Result, Ok, Err}
+use Rattle.std.specs.Prelude.{◌≡◌, ◌≤◌, ◌<◌, ℕ, ◌-◌, suc, length, List, ◌++◌, Result, Ok, Err}
 use Rattle.vtl_syntax.specs.declared.script.Script.{Script}
 use Rattle.vtl_grammar.specs.Marks.{Tokens}
 use Rattle.vtl_grammar.specs.Scripts as kinds

@@ -6,24 +6,26 @@ ghost use Rattle.vtl_cursor.specs.Views.{kind_of};
 ghost use Rattle.vtl_tokens.specs.declared.keyword.Keyword.TheVariants as words;
 ghost use Rattle.vtl_grammar.specs.LeftOut.{is_same_word, ends_with_group, is_left_out_at};
 ghost use Rattle.vtl_grammar.specs.Parsed.{fault_of as fault_meant, word_in, unexpected, expected_or_left_out};
-ghost use Rattle.vtl_parser.specs.Parses.{IsEnded, IsAnswer, fault_of};
+ghost use Rattle.vtl_lexer.specs.Tokens.{AreOfText};
+ghost use Rattle.vtl_parser.specs.Parses.{IsAnswer, fault_of};
 
+use crate::parsed::ParsedScript;
 use crate::script::whole;
 use crate::stop::{ParseFault, ParseStop};
 use std::alloc::{AllocError, Global};
 use vtl_cursor::{Cursor, Kind, Stop, is_same_word, is_word};
-use vtl_syntax::Script;
 use vtl_tokens::{Keyword, Token, TokenKind};
 use vtl_values::Place;
 
-/// The script that the tokens before the end are, or the fault that they have and its place.
-pub fn parse(alloc: Global, tokens: &[Token]) -> Result<Script, ParseStop>
-    requires { IsEnded tokens.now }
+/// The script that the tokens of a text are, or the fault that they have and its place. The grammar is that of
+/// `docs/language.md`, section "Grammar".
+pub fn parse(alloc: Global, tokens: &[Token]) -> Result<ParsedScript, ParseStop>
+    requires { AreOfText tokens.now }
     ensures { IsAnswer tokens.now result }
 {
     let mut cursor = Cursor::new(tokens);
     match whole(alloc, &mut cursor) {
-        Ok(script) => Ok(script),
+        Ok(script) => Ok(ParsedScript::of(script)),
         Err(Stop::Memory) => Err(ParseStop::Memory),
         Err(Stop::At(kind)) => {
             let read = tokens.len() - 1 - cursor.tokens.len();

@@ -1,5 +1,5 @@
 // What is written of a script, and the faults of a text that is none.
-ghost use Rattle.vtl_parser.specs.Parses.{IsEnded};
+ghost use Rattle.vtl_lexer.specs.Tokens.{AreOfText};
 
 use crate::scripts::trees::tree;
 use anyhow::{Result, bail};
@@ -12,7 +12,6 @@ use vtl_tokens::{Token, TokenKind};
 use vtl_values::{Place, Value, Word, show_value};
 
 /// The answer to the script of a section with this title.
-#[tactic(auto, using(vtl_parser::proofs::Ended::ended))]
 pub fn answer(alloc: Global, title: &str, text: &[u8]) -> Result<String> {
     if text.len() > 100_000 {
         bail!("a long script");
@@ -29,12 +28,12 @@ pub fn answer(alloc: Global, title: &str, text: &[u8]) -> Result<String> {
 }
 
 fn parsed(alloc: Global, title: &str, tokens: &[Token]) -> Result<String>
-    requires { IsEnded tokens.now }
+    requires { AreOfText tokens.now }
 {
     match parse(alloc, tokens) {
-        Ok(script) if title.starts_with("tree") => tree(alloc, &script),
-        Ok(script) if title.starts_with("count") => count(alloc, &script),
-        Ok(script) => printed(alloc, &script),
+        Ok(script) if title.starts_with("tree") => tree(alloc, script.script()),
+        Ok(script) if title.starts_with("count") => count(alloc, script.script()),
+        Ok(script) => printed(alloc, script.script()),
         Err(ParseStop::Fault(fault, place)) => fault_line(alloc, fault, place),
         Err(ParseStop::Memory) => bail!("out of memory"),
     }
@@ -68,7 +67,6 @@ fn count(alloc: Global, script: &Script) -> Result<String> {
 }
 
 // The text that a printed script is printed as, where it is read as a script.
-#[tactic(auto, using(vtl_parser::proofs::Ended::ended))]
 fn printed_again(alloc: Global, text: &Word) -> Result<Word> {
     let bytes = text.as_str().as_bytes();
     if bytes.len() > 1_000_000 {
@@ -78,7 +76,7 @@ fn printed_again(alloc: Global, text: &Word) -> Result<Word> {
         bail!("no tokens");
     };
     match parse(alloc, list.as_slice()) {
-        Ok(script) => Ok(show(alloc, &script)?),
+        Ok(script) => Ok(show(alloc, script.script())?),
         Err(_) => bail!("no script"),
     }
 }
