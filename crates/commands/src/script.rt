@@ -14,7 +14,8 @@ use crate::typing::structures_of;
 use data_set_trees::checked::TypedScript;
 use std::alloc::{AllocError, Global};
 use vtl_lexer::{LexFault, LexStop, tokens};
-use vtl_parser::{ParseFault, ParseStop, ParsedScript, parse};
+use vtl_parser::{ParseFault, ParseStop, parse};
+use vtl_syntax::Script;
 use vtl_tokens::{Keyword, Token};
 use vtl_values::{Place, Structures};
 
@@ -30,7 +31,7 @@ pub fn typed_script(alloc: Global, structures: Structures, text: &[u8]) -> Resul
 {
     let tokens = read_tokens(alloc, text)?;
     let script = read_tree(alloc, tokens.as_slice())?;
-    let written = written_out(alloc, script.script())?;
+    let written = written_out(alloc, &script)?;
     structures_of(alloc, &written, structures)
 }
 
@@ -50,14 +51,15 @@ fn read_tokens(alloc: Global, text: &[u8]) -> Result<Vec<Token>, Stop>
 }
 
 /// The tree that the tokens of a text are.
-fn read_tree(alloc: Global, tokens: &[Token]) -> Result<ParsedScript, Stop>
+fn read_tree(alloc: Global, tokens: &[Token]) -> Result<Script, Stop>
     requires { AreOfText tokens.now }
     ensures go { IfOk result (λ script. told_tree (answered tokens.now) ≡ Ok script) }
+    ensures few { IfOk result (λ script. length script.statements ≤ 256) }
     ensures end { IfErr result (λ stop. Refuses stop (told_tree (answered tokens.now))) }
     ensures kind { IfErr result IsRefusal }
 {
     match parse(alloc, tokens) {
-        Ok(script) => Ok(script),
+        Ok(script) => Ok(script.into_script()),
         Err(ParseStop::Fault(fault, place)) => {
             let end = fault_line(alloc, fault)?;
             Err(refused(alloc, place, end.as_slice()))
