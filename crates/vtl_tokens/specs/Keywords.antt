@@ -1,5 +1,6 @@
 -- Reserved words (docs/language.md, "Tokens").
-use Rattle.std.specs.Prelude.{ℕ, List, Option, Bool, true, false, find, nat_eq, codes}
+use Rattle.std.specs.Prelude.{ℕ, List, Option, Bool, true, false, ◌||◌, find, nat_eq, codes}
+use Rattle.std.specs.Char.{is_ascii_lowercase}
 use Rattle.std.specs.Cmp.Lexicographic.{pointwise}
 use Rattle.vtl_tokens.specs.declared.keyword.Keyword.{Keyword}
 use Rattle.vtl_tokens.specs.declared.keyword.TheConstants.Keyword.{ALL}
@@ -150,6 +151,10 @@ word_of Valuedomain = codes "valuedomain"
 word_of Components = codes "components"
 word_of Viral = codes "viral"
 word_of Identifier = codes "identifier"
+
+-- a small letter or an underscore, of which reserved words are made
+abbrev pub is_small : ℕ → Bool
+is_small code = is_ascii_lowercase code || nat_eq code 95
 
 -- the reserved word that is written so
 unfoldable pub keyword_of : List ℕ → Option Keyword

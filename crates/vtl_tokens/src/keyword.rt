@@ -1,7 +1,8 @@
 // Reserved words.
 ghost use Rattle.std.specs.Prelude.{◌≡◌, ◌↔◌, Some, find, nat_eq};
 ghost use Rattle.std.specs.Cmp.Lexicographic.{pointwise};
-ghost use Rattle.vtl_tokens.specs.Keywords.{word_of, keyword_of, is_left_out};
+ghost use Rattle.std.specs.List.{list_all};
+ghost use Rattle.vtl_tokens.specs.Keywords.{word_of, keyword_of, is_left_out, is_small};
 
 /// A word that is no name unless it stands in quotes.
 #[derive(Clone, Copy, Debug, PartialEq, Eq)]
@@ -450,11 +451,14 @@ impl Keyword {
         }
     }
 
-    /// The word that is written so.
+    /// The word that is written so. A name with a capital or a digit isn't looked for among them.
     pub fn of(text: &str) -> Option<Keyword>
         ensures exact { (word : Keyword) → (result ≡ Some word) ↔ (text.now ≡ word_of word) }
         ensures value { result ≡ keyword_of text.now }
     {
+        if !is_small(text) {
+            return None;
+        }
         first_written(&Keyword::ALL, text)
     }
 
@@ -487,6 +491,15 @@ impl Keyword {
                 | Keyword::Identifier
         )
     }
+}
+
+/// Whether all is small letters and underscores, as it is in each reserved word.
+fn is_small(text: &str) -> bool
+    ensures { result ≡ list_all is_small text.now }
+{
+    text.as_bytes()
+        .iter()
+        .all(|byte| byte.is_ascii_lowercase() || *byte == b'_')
 }
 
 /// The first of the words that is written so.

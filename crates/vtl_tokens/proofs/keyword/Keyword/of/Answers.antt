@@ -1,7 +1,10 @@
 use Rattle.std.proofs.Common.{◌≡◌, sym, ◌∙◌, ap}
 use Rattle.vtl_tokens.specs.Keywords.{keyword_of}
-use Rattle.vtl_tokens.proofs.KeywordLemmas.{written_word_is_found, found_word_is_written}
+use Rattle.vtl_tokens.proofs.KeywordLemmas.{written_word_is_found, found_word_is_written, none_is_written}
 use Rattle.vtl_tokens.proofs.keyword.Keyword.of.Goals as goal
+
+pub returns-then-not-is_small-clause-value : goal.returns-then-not-is_small-clause-value
+returns-then-not-is_small-clause-value c = sym (none_is_written c.args.text.now (sym c.is_small.ensures ∙ c.if-not-is_small.true))
 
 pub returns-clause-exact : goal.returns-clause-exact
 unfolding keyword_of
