@@ -1,16 +1,14 @@
 -- The parser answers what the tokens of a text are, and an end with the line of a fault stands for its stage.
-use Rattle.std.proofs.Common.{◌≡◌, ◌≤◌, ◌∙◌, length, Option, Some, None, Result, Ok, Err, refl, sym, ap, subst}
+use Rattle.std.proofs.Common.{◌≡◌, ◌∙◌, length, Option, Some, None, Result, Ok, Err, refl, sym, ap}
 use Rattle.std.proofs.lemmas.List.{length-map}
 use Rattle.vtl_values.specs.declared.place.Place.{Place}
 use Rattle.vtl_syntax.specs.declared.script.Script.{Script}
 use Rattle.vtl_grammar.specs.Marks.{Tokens}
 use Rattle.vtl_grammar.specs.Faults.{Fault}
-use Rattle.vtl_grammar.specs.Scripts.{a_statement, IsScript}
-use Rattle.vtl_parser.specs.OfText.{IsOfText}
 use Rattle.defined_operators.specs.Expanded.{expanded, first_fault, unless}
 use Rattle.replaced_calls.specs.Scripts.{written_out}
 use Rattle.operator_faults.specs.declared.fault.PlacedFault.{PlacedFault}
-use Rattle.vtl_parser.specs.Parses.{answered, before_end, IsOnly}
+use Rattle.vtl_parser.specs.Parses.{answered, IsOnly}
 use Rattle.vtl_parser.proofs.Answered.{answered-only}
 use Rattle.commands.specs.declared.stop.Stop.{Stop}
 use Rattle.commands.specs.declared.stop.Stop.TheVariants.{Ended, Memory}
@@ -37,14 +35,6 @@ pub refuses-written : (meant : Result Script PlacedFault) (placed : PlacedFault)
 refuses-written meant placed stop is gives = refuses (told_written meant) (refused_script placed.place (operator_line placed.fault)) stop (ap told_written is) gives
 
 -- ---- how many statements
-
--- a script of the grammar has no more than there may be
-few-in : (s : Script) (tokens : Tokens) → IsScript s tokens → length s.statements ≤ 256
-few-in s tokens (n, made) = subst (λ (t : Script). length t.statements ≤ 256) (sym made.1) (made.2 a_statement)
-
--- so a script of a text hasn't
-pub few-statements : (s : Script) → IsOfText s → length s.statements ≤ 256
-few-statements s is = few-in s (before_end is.tokens) is.is_script
 
 -- the script that is written out has as many as the script
 as-many : (o : Option PlacedFault) (s written : Script) → unless o (written_out s) ≡ Ok written → length written.statements ≡ length s.statements

@@ -1,5 +1,5 @@
 // Scripts as the parser gives them.
-ghost use Rattle.std.specs.Prelude.{◌≡◌, ◌≤◌, length};
+ghost use Rattle.std.specs.Prelude.{◌≡◌};
 
 use std::marker::Model;
 use vtl_syntax::Script;
@@ -26,6 +26,7 @@ impl Model for ParsedScript {
 
 impl ParsedScript {
     ghost use Rattle.vtl_parser.specs.OfText.{IsOfText};
+    ghost use Rattle.vtl_parser.specs.Scripts.{HasRoom};
 
     pub(crate) fn of(script: Script) -> ParsedScript
         requires { IsOfText script }
@@ -38,15 +39,16 @@ impl ParsedScript {
     pub fn script(&self) -> &Script
         ensures value { result.now ≡ self.now }
         ensures of_text { IsOfText self.now }
-        ensures few { (length self.now.statements ≤ 256) × (length self.now.rulesets ≤ 64) × (length self.now.operators ≤ 64) }
+        ensures few { HasRoom self.now }
     {
         &self.script
     }
 
-    /// The script by itself.
+    /// The script by itself, which is within the limits.
     pub fn into_script(self) -> Script
         ensures value { result ≡ self }
         ensures of_text { IsOfText self }
+        ensures few { HasRoom self }
     {
         self.script
     }

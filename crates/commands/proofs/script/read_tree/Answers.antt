@@ -3,14 +3,14 @@ use Rattle.vtl_syntax.specs.declared.script.Script.{Script}
 use Rattle.vtl_parser.specs.Parses.{fault_of}
 use Rattle.commands.specs.Ends.{Gives}
 use Rattle.commands.specs.Scripts.{refused_script, told_tree}
-use Rattle.commands.proofs.ScriptLemmas.{answered-is, few-statements, refuses-tree}
+use Rattle.commands.proofs.ScriptLemmas.{answered-is, refuses-tree}
 use Rattle.commands.proofs.script.read_tree.Goals as goal
 
 pub returns-in-Ok-clause-go : goal.returns-in-Ok-clause-go
 returns-in-Ok-clause-go c = rw c.into_script.ensures.value (ap told_tree (answered-is c.args.tokens.now (Ok c.in-Ok.script) c.in-Ok.ensures))
 
 pub returns-in-Ok-clause-few : goal.returns-in-Ok-clause-few
-returns-in-Ok-clause-few c = subst (λ (s : Script). length s.statements ≤ 256) (sym c.into_script.ensures.value) (few-statements c.in-Ok.script c.into_script.ensures.of_text)
+returns-in-Ok-clause-few c = subst (λ (s : Script). length s.statements ≤ 256) (sym c.into_script.ensures.value) c.into_script.ensures.few.statements
 
 pub returns-in_ok-end-in-Err-Fault-clause-end : goal.returns-in_ok-end-in-Err-Fault-clause-end
 returns-in_ok-end-in-Err-Fault-clause-end c =
