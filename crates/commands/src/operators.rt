@@ -13,10 +13,10 @@ use vtl_syntax::Script;
 use vtl_values::Word;
 
 /// The script in which calls of defined operators are written out.
-pub fn written_out(alloc: Global, script: &Script) -> Result<Script, Stop>
-    ensures go { IfOk result (λ written. told_written (expanded script.now) ≡ Ok written) }
-    ensures as_many { IfOk result (λ written. length written.statements ≡ length script.now.statements) }
-    ensures end { IfErr result (λ stop. Refuses stop (told_written (expanded script.now))) }
+pub fn written_out(alloc: Global, script: Script) -> Result<Script, Stop>
+    ensures go { IfOk result (λ written. told_written (expanded script) ≡ Ok written) }
+    ensures as_many { IfOk result (λ written. length written.statements ≡ length script.statements) }
+    ensures end { IfErr result (λ stop. Refuses stop (told_written (expanded script))) }
     ensures kind { IfErr result IsRefusal }
 {
     match expand(alloc, script) {

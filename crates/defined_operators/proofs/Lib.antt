@@ -2,4 +2,5 @@ pub mod Answered
 pub mod Sorting
 pub mod Standing
 pub mod Unused
+pub mod Unwritten
 pub mod Weights

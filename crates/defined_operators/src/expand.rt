@@ -48,13 +48,16 @@ fn fault_of(alloc: Global, script: &Script) -> Result<Option<PlacedFault>, Alloc
 /// # Costs
 /// Beside the written-out script itself, for each operator a pass over the bodies of all. An argument is written once for
 /// a call, and isn't where the operator doesn't use its parameter; it is copied to each place where it is used. Where
-/// there is a fault, nothing is written.
-pub fn expand(alloc: Global, script: &Script) -> Result<Script, ExpandStop>
-    ensures ok { IfOk result (λ written. expanded script.now ≡ Ok written) }
-    ensures err { IfErr result (Tells (expanded script.now)) }
+/// there is a fault, or no operator, nothing is written.
+pub fn expand(alloc: Global, script: Script) -> Result<Script, ExpandStop>
+    ensures ok { IfOk result (λ written. expanded script ≡ Ok written) }
+    ensures err { IfErr result (Tells (expanded script)) }
 {
-    if let Some(fault) = fault_of(alloc, script)? {
+    if let Some(fault) = fault_of(alloc, &script)? {
         return Err(ExpandStop::Fault(fault));
     }
-    Ok(written_out(alloc, script)?)
+    if script.operators.is_empty() {
+        return Ok(script);
+    }
+    Ok(written_out(alloc, &script)?)
 }

@@ -9,7 +9,7 @@ pub returns-in_ok-end-in-Err-Fault-clause-end : goal.returns-in_ok-end-in-Err-Fa
 returns-in_ok-end-in-Err-Fault-clause-end c =
     let meant = rw c.in-Err-Fault.field-0-is at c.in-Err-Fault.ensures.err in
     let gives = subst (λ (end : List ℕ). Gives c.refused.result (refused_script c.in-Err-Fault.placed.place end)) (c.as_slice.ensures.value ∙ c.in_ok-end-in-Err-Fault.ensures) c.refused.ensures.gives in
-    refuses-written (expanded c.args.script.now) c.in-Err-Fault.placed c.refused.result meant gives
+    refuses-written (expanded c.args.script) c.in-Err-Fault.placed c.refused.result meant gives
 
 pub returns-in-Ok-clause-as_many : goal.returns-in-Ok-clause-as_many
-returns-in-Ok-clause-as_many c = written-as-many c.args.script.now c.in-Ok.written c.in-Ok.ensures.ok
+returns-in-Ok-clause-as_many c = written-as-many c.args.script c.in-Ok.written c.in-Ok.ensures.ok
