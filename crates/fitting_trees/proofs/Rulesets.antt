@@ -41,7 +41,7 @@ use Rattle.scalar_trees.specs.typing.Steps.{◌>>=◌, demanded, or_refused}
 use Rattle.scalar_trees.proofs.typing.Sound.{both, left, right}
 use Rattle.data_set_trees.specs.clauses.Clauses.{bare_number_of, passes_at}
 use Rattle.data_set_trees.specs.clauses.Frames.{frame_of, has_role}
-use Rattle.data_set_trees.specs.aggregates.Aggregates.{has_room, names_differ}
+use Rattle.data_set_trees.specs.aggregates.Aggregates.{are_numeric, has_room, names_differ}
 use Rattle.data_set_trees.specs.checked.Uses.{has_items, is_at, is_condition, is_content, is_datapoint, is_hierarchy, is_point_rule, is_truth}
 use Rattle.data_set_trees.specs.declared.rules.rules.CheckedDatapoint.{CheckedDatapoint}
 use Rattle.data_set_trees.specs.declared.rules.rules.CheckedHierarchy.{CheckedHierarchy}
@@ -52,7 +52,7 @@ use Rattle.data_set_trees.specs.declared.rules.rules.PointRule.{PointRule}
 use Rattle.data_set_trees.specs.rules.Datapoints as datapoints
 use Rattle.data_set_trees.specs.rules.Datapoints.{datapoint_checked, numbered}
 use Rattle.data_set_trees.specs.rules.Hierarchies as hierarchies
-use Rattle.data_set_trees.specs.rules.Hierarchies.{are_numeric, checked_checked, computed_checked, condition_faults, content_of, demands_of, has_one_measure, hierarchy_checked, may_condition, passes, rows_demanded, signed, variables_of}
+use Rattle.data_set_trees.specs.rules.Hierarchies.{checked_checked, computed_checked, condition_faults, content_of, demands_of, has_one_measure, hierarchy_checked, may_condition, passes, rows_demanded, signed, variables_of}
 use Rattle.data_set_trees.specs.rules.Rules.{all_faults, are_known, boolean_typed, condition_typed, error_of, fault_number, first_fault, given, is_among, rule_name, scope_of_rules, unless_faulty, unmet, value_or}
 use Rattle.expression_rules.specs.OnRules.{datapoint_at, datapoint_called, hierarchy_at, hierarchy_called}
 use Rattle.literal_ranges.specs.Ranges.{condition_in_range, datapoint_in_range, hierarchy_in_range, literals_in_range, ruleset_in_range}

@@ -1,5 +1,6 @@
 // The components of a result.
-ghost use Rattle.std.specs.Prelude.{◌≡◌, slice_get, IfOk};
+ghost use Rattle.std.specs.Prelude.{◌≡◌, not, slice_get, IfOk};
+ghost use Rattle.vtl_values.specs.declared.kind.Role.TheVariants.{Attribute};
 ghost use Rattle.data_set_trees.specs.aggregates.Results as results;
 ghost use Rattle.data_set_trees.specs.clauses.Frames as meant;
 
@@ -51,6 +52,30 @@ pub fn numbers_of(
         }
     }
     Ok(numbers)
+}
+
+/// The numbers of the components that aren't plain attributes.
+fn numbers_left(alloc: Global, components: &[Component]) -> Result<Items<u64>, AllocError>
+    ensures { IfOk result (λ numbers. numbers ≡ meant.numbers_from (λ number c. not (meant.has_role Attribute c)) 0 components.now) }
+{
+    let mut numbers = Items::new(alloc);
+    for (i, component) in components.iter().enumerate() {
+        if !has_role(Role::Attribute, component) {
+            numbers.push(i as u64)?;
+        }
+    }
+    Ok(numbers)
+}
+
+/// All components but plain attributes, or want of memory. It costs the number of components.
+pub fn without_attributes(
+    alloc: Global,
+    components: &[Component],
+) -> Result<Items<Component>, AllocError>
+    ensures { IfOk result (λ left. left ≡ results.without_attributes components.now) }
+{
+    let numbers = numbers_left(alloc, components)?;
+    with_numbers(alloc, components, numbers.as_slice())
 }
 
 /// The components by role: identifiers, measures, attributes and then viral attributes, each in their order. Or want of

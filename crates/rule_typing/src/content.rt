@@ -1,9 +1,8 @@
 // What both uses of a hierarchical ruleset have.
-ghost use Rattle.std.specs.Prelude.{◌≡◌, ◌&&◌, not, ◌||◌, [], ◌∷◌, count_by, is_some, unwrap_or, Some, Ok, IfOk, IfErr};
+ghost use Rattle.std.specs.Prelude.{◌≡◌, [], ◌∷◌, count_by, unwrap_or, Ok, IfOk, IfErr};
 ghost use Rattle.std.specs.List.{list_all};
 ghost use Rattle.vtl_values.specs.declared.kind.Kind.TheVariants.{Text};
 ghost use Rattle.vtl_values.specs.declared.kind.Role.TheVariants.{Identifier, Measure};
-ghost use Rattle.scalar_trees.specs.Kinds as kinds;
 ghost use Rattle.scalar_trees.specs.WellTyped as kinds_of_values;
 ghost use Rattle.scalar_trees.specs.declared.typing.stop.Fault.TheVariants.{UnknownComponent, WrongType, WrongStructure, WrongRole};
 ghost use Rattle.scalar_trees.specs.typing.Steps.{Refuses, or_refused};
@@ -20,7 +19,7 @@ use crate::names::{are_known, scope_of_rules};
 use clause_typing::{bare_number_of, frame_of, has_role};
 use data_set_trees::clauses::Frame;
 use data_set_trees::rules::HierarchyContent;
-use scalar_trees::agreed;
+use result_components::are_numeric;
 use scalar_trees::typing::{Fault, TypeStop, demand};
 use std::alloc::Global;
 use vtl_syntax::ruleset::{HierarchyRules, Variable};
@@ -56,20 +55,6 @@ fn number_called(frame: &Frame, name: &Word, place: Place) -> Result<u64, TypeSt
         Some(number) => Ok(number),
         None => Err(TypeStop::at(Fault::UnknownComponent, place)),
     }
-}
-
-/// Whether the component is no measure, or an integer or a number.
-fn may_be_summed(component: &Component) -> bool
-    ensures { result ≡ (not (frames.has_role Measure component.now) || is_some (kinds.agreed kinds.NUMERIC (Some component.now.kind ∷ []))) }
-{
-    !has_role(Role::Measure, component)
-        || agreed(&[Kind::Integer, Kind::Number], &[Some(component.kind)]).is_some()
-}
-
-fn are_numeric(components: &[Component]) -> bool
-    ensures { result ≡ meant.are_numeric components.now }
-{
-    components.iter().all(|component| may_be_summed(component))
 }
 
 fn measure_count(components: &[Component]) -> usize

@@ -6,9 +6,9 @@ ghost use Rattle.data_set_trees.specs.rules.Rules as told;
 ghost use Rattle.data_set_trees.specs.rules.Hierarchies as meant;
 
 use crate::content::content_typed;
-use crate::rows::{hierarchy_rows, unmet_of_rows, without_attributes};
+use crate::rows::{hierarchy_rows, unmet_of_rows};
 use data_set_trees::rules::CheckedHierarchy;
-use result_components::by_role;
+use result_components::{by_role, without_attributes};
 use scalar_trees::typing::{Fault, TypeStop};
 use sqlite_items::Items;
 use std::alloc::{AllocError, Global};

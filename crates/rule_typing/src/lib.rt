@@ -23,4 +23,4 @@ pub use content::variables_of;
 pub use datapoints::{datapoint_after, datapoint_typed};
 pub use hierarchies::{computed_typed, hierarchy_after, rows_typed};
 pub use names::name_in_rules;
-pub use told::rule_name;
+pub use told::{error_with, rule_name};

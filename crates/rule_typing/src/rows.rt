@@ -1,9 +1,9 @@
 // The components of rows, and those that stay in a hierarchy.
-ghost use Rattle.std.specs.Prelude.{◌≡◌, ◌++◌, [], ◌∷◌, not, find, option_map, true, IfOk, OnOk};
+ghost use Rattle.std.specs.Prelude.{◌≡◌, ◌++◌, [], ◌∷◌, find, option_map, true, IfOk, OnOk};
 ghost use Rattle.std.specs.Char.{is_ascii};
 ghost use Rattle.std.specs.List.{list_all};
 ghost use Rattle.vtl_values.specs.declared.kind.Kind.TheVariants.{Text};
-ghost use Rattle.vtl_values.specs.declared.kind.Role.TheVariants.{Attribute, Identifier, Measure, Viral};
+ghost use Rattle.vtl_values.specs.declared.kind.Role.TheVariants.{Identifier, Measure, Viral};
 ghost use Rattle.scalar_trees.specs.declared.typing.stop.Fault.TheVariants.{NameTwice, TooManyComponents};
 ghost use Rattle.data_set_trees.specs.clauses.After as clauses;
 ghost use Rattle.data_set_trees.specs.clauses.Frames as frames;
@@ -165,28 +165,4 @@ pub(crate) fn unmet_of_rows(alloc: Global, rows: &[Component]) -> Result<Option<
     let apart = names_differ(alloc, rows)?;
     let room = has_room(rows);
     Ok(first_unmet(&[(apart, Fault::NameTwice), (room, Fault::TooManyComponents)]))
-}
-
-/// The numbers of the components that aren't plain attributes.
-fn numbers_left(alloc: Global, components: &[Component]) -> Result<Items<u64>, AllocError>
-    ensures { IfOk result (λ numbers. numbers ≡ frames.numbers_from (λ number c. not (frames.has_role Attribute c)) 0 components.now) }
-{
-    let mut numbers = Items::new(alloc);
-    for (i, component) in components.iter().enumerate() {
-        if !has_role(Role::Attribute, component) {
-            numbers.push(i as u64)?;
-        }
-    }
-    Ok(numbers)
-}
-
-/// All components but plain attributes, or want of memory.
-pub(crate) fn without_attributes(
-    alloc: Global,
-    components: &[Component],
-) -> Result<Items<Component>, AllocError>
-    ensures { IfOk result (λ left. left ≡ hierarchies.without_attributes components.now) }
-{
-    let numbers = numbers_left(alloc, components)?;
-    with_numbers(alloc, components, numbers.as_slice())
 }

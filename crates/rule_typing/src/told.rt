@@ -5,7 +5,7 @@ ghost use Rattle.data_set_trees.specs.rules.Rules as meant;
 use data_set_trees::rules::RuleError;
 use std::alloc::{AllocError, Global};
 use vtl_syntax::ruleset::FaultPart;
-use vtl_values::Word;
+use vtl_values::{Integer, Word};
 
 fn number_text(alloc: Global, number: u64) -> Result<Word, AllocError>
     ensures { IfOk result (λ text. text ≡ decimal number) }
@@ -32,12 +32,19 @@ fn copy_code(code: &Option<Word>) -> Result<Option<Word>, AllocError>
     }
 }
 
+/// What is told by this code and level, or want of memory.
+pub fn error_with(code: &Option<Word>, level: Option<Integer>) -> Result<RuleError, AllocError>
+    ensures { IfOk result (λ error. error ≡ record { code = code.now; level = level }) }
+{
+    Ok(RuleError {
+        code: copy_code(code)?,
+        level,
+    })
+}
+
 /// What is told where a rule is broken, or want of memory.
 pub(crate) fn error_of(fault: &FaultPart) -> Result<RuleError, AllocError>
     ensures { IfOk result (λ error. error ≡ meant.error_of fault.now) }
 {
-    Ok(RuleError {
-        code: copy_code(&fault.code)?,
-        level: fault.level,
-    })
+    error_with(&fault.code, fault.level)
 }

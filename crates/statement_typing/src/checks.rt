@@ -1,5 +1,5 @@
 // `check` on a data set and its imbalance.
-ghost use Rattle.std.specs.Prelude.{◌≡◌, ◌<◌, ◌∷◌, IfOk};
+ghost use Rattle.std.specs.Prelude.{◌<◌, ◌∷◌};
 ghost use Rattle.vtl_syntax.specs.declared.expr.Expr.{size-Expr};
 ghost use Rattle.expression_rules.specs.Expressions as meant;
 ghost use Rattle.expression_rules.specs.OnChecks.{check_typed};
@@ -9,33 +9,14 @@ ghost use Rattle.statement_typing.specs.Parts.{Answers, TypesParts, after_all, i
 use crate::checker::Checker;
 use crate::names::Names;
 use data_set_trees::Operand;
-use data_set_trees::rules::RuleError;
+use rule_typing::error_with;
 use scalar_trees::typing::TypeStop;
 use set_typing::check;
 use sqlite_items::Boxed;
-use std::alloc::{AllocError, Global};
+use std::alloc::Global;
 use vtl_syntax::Expr;
 use vtl_syntax::words::CheckOutput;
 use vtl_values::{Integer, Place, Word};
-
-fn copy_code(code: &Option<Word>) -> Result<Option<Word>, AllocError>
-    ensures { IfOk result (λ copy. copy ≡ code.now) }
-{
-    match code {
-        Some(code) => Ok(Some(code.copy()?)),
-        None => Ok(None),
-    }
-}
-
-/// What is told of a point that doesn't pass. Or want of memory.
-fn error_of(code: &Option<Word>, level: Option<Integer>) -> Result<RuleError, AllocError>
-    ensures { IfOk result (λ error. error ≡ record { code = code.now; level = level }) }
-{
-    Ok(RuleError {
-        code: copy_code(code)?,
-        level,
-    })
-}
 
 impl<F: Fn(Global, &Names<'_>, &Expr) -> Result<Operand, TypeStop> + Copy> Checker<'_, '_, F> {
     /// `check(a errorcode .. errorlevel .. imbalance .. output)`
@@ -55,7 +36,7 @@ impl<F: Fn(Global, &Names<'_>, &Expr) -> Result<Operand, TypeStop> + Copy> Check
     {
         let mut operands = self.one(operand)?;
         operands.append(self.optional(imbalance)?)?;
-        let error = error_of(code, level)?;
+        let error = error_with(code, level)?;
         check(self.alloc, error, output, place, operands)
     }
 }

@@ -1,43 +1,19 @@
 // The components that operators on time series give.
-ghost use Rattle.std.specs.Prelude.{◌≡◌, ℕ, not, codes, IfOk};
+ghost use Rattle.std.specs.Prelude.{◌≡◌, ℕ, codes, IfOk};
 ghost use Rattle.vtl_values.specs.declared.kind.Kind.TheVariants.{Text};
-ghost use Rattle.vtl_values.specs.declared.kind.Role.TheVariants.{Attribute, Measure};
+ghost use Rattle.vtl_values.specs.declared.kind.Role.TheVariants.{Measure};
 ghost use Rattle.data_set_trees.specs.clauses.After as clauses;
 ghost use Rattle.data_set_trees.specs.clauses.Frames as frames;
 ghost use Rattle.data_set_trees.specs.declared.times.time.CheckedTime.TheVariants.{Of};
 ghost use Rattle.data_set_trees.specs.times.Times as meant;
 
-use clause_typing::{has_role, made};
+use clause_typing::made;
 use data_set_trees::times::CheckedTime;
-use result_components::{by_role, numbers_of, with_numbers};
+use result_components::{by_role, numbers_of, with_numbers, without_attributes};
 use sqlite_items::Items;
 use std::alloc::{AllocError, Global};
 use vtl_syntax::words::TimeFunction;
 use vtl_values::{Component, Kind, Role, Word};
-
-/// The numbers of the components that aren't plain attributes.
-fn numbers_left(alloc: Global, components: &[Component]) -> Result<Items<u64>, AllocError>
-    ensures { IfOk result (λ numbers. numbers ≡ frames.numbers_from (λ number c. not (frames.has_role Attribute c)) 0 components.now) }
-{
-    let mut numbers = Items::new(alloc);
-    for (i, component) in components.iter().enumerate() {
-        if !has_role(Role::Attribute, component) {
-            numbers.push(i as u64)?;
-        }
-    }
-    Ok(numbers)
-}
-
-/// All components but plain attributes.
-fn without_attributes(
-    alloc: Global,
-    components: &[Component],
-) -> Result<Items<Component>, AllocError>
-    ensures { IfOk result (λ left. left ≡ meant.without_attributes components.now) }
-{
-    let numbers = numbers_left(alloc, components)?;
-    with_numbers(alloc, components, numbers.as_slice())
-}
 
 fn duration_name(alloc: Global) -> Result<Word, AllocError>
     ensures { IfOk result (λ name. name ≡ codes "duration_var") }

@@ -1,39 +1,21 @@
 // Operators on time series.
-ghost use Rattle.std.specs.Prelude.{◌≡◌, nat_abs, nat_le, not, ◌||◌, is_some, [], ◌∷◌, Some, Ok, IfOk, IfErr};
-ghost use Rattle.vtl_values.specs.declared.kind.Role.TheVariants.{Measure};
+ghost use Rattle.std.specs.Prelude.{◌≡◌, nat_abs, nat_le, [], ◌∷◌, Ok, IfOk, IfErr};
 ghost use Rattle.vtl_values.specs.Structures.{IsStructure};
 ghost use Rattle.vtl_syntax.specs.declared.words.TimeFunction.TheVariants.{PeriodIndicator};
-ghost use Rattle.scalar_trees.specs.Kinds as kinds;
 ghost use Rattle.scalar_trees.specs.declared.typing.stop.Fault.TheVariants.{NameTwice, TooManyComponents};
 ghost use Rattle.scalar_trees.specs.typing.Steps.{Refuses};
 ghost use Rattle.data_set_trees.specs.clauses.Clauses as clauses;
-ghost use Rattle.data_set_trees.specs.clauses.Frames as frames;
 ghost use Rattle.data_set_trees.specs.times.Times as meant;
 
 use crate::after::with_duration;
 use crate::period::period_of;
-use clause_typing::{demands, has_role};
+use clause_typing::demands;
 use data_set_trees::times::CheckedTime;
-use result_components::{has_room, names_differ};
-use scalar_trees::agreed;
+use result_components::{are_numeric, has_room, names_differ};
 use scalar_trees::typing::{Fault, TypeStop};
 use std::alloc::Global;
 use vtl_syntax::words::{FillSpan, TimeFunction};
-use vtl_values::{Component, Integer, Kind, Place, Role};
-
-/// Whether the component is no measure, or an integer or a number.
-fn may_be_summed(component: &Component) -> bool
-    ensures { result ≡ (not (frames.has_role Measure component.now) || is_some (kinds.agreed kinds.NUMERIC (Some component.now.kind ∷ []))) }
-{
-    !has_role(Role::Measure, component)
-        || agreed(&[Kind::Integer, Kind::Number], &[Some(component.kind)]).is_some()
-}
-
-fn are_numeric(components: &[Component]) -> bool
-    ensures { result ≡ meant.are_numeric components.now }
-{
-    components.iter().all(|component| may_be_summed(component))
-}
+use vtl_values::{Component, Integer, Place};
 
 /// Whether the measures are of kinds that the operator takes.
 fn takes_kinds(function: TimeFunction, components: &[Component]) -> bool

@@ -21,17 +21,18 @@ use Rattle.scalar_trees.specs.declared.typing.typed.Typed.{Typed}
 use Rattle.scalar_trees.specs.typing.Steps.{◌>>=◌, demanded}
 use Rattle.scalar_trees.proofs.typing.Sound.{left, right}
 use Rattle.data_set_trees.specs.clauses.Clauses.{demands, all_differ}
-use Rattle.data_set_trees.specs.clauses.Frames.{frame_of, numbers_of}
+use Rattle.data_set_trees.specs.clauses.Frames.{frame_of, has_role, numbers_of}
 use Rattle.data_set_trees.specs.clauses.Laws.{FitTogether}
 use Rattle.data_set_trees.specs.clauses.WellTyped.{may_be_made}
 use Rattle.data_set_trees.proofs.clauses.Names.{none-passes, texts-differ}
 use Rattle.data_set_trees.proofs.clauses.Ordered.{orders_structures}
+use Rattle.data_set_trees.proofs.clauses.Parts.{leaves_structures}
 use Rattle.data_set_trees.specs.declared.aggregates.aggregate.AggregateItem.{AggregateItem}
 use Rattle.data_set_trees.specs.declared.aggregates.aggregate.CheckedAggregate.{CheckedAggregate}
 use Rattle.data_set_trees.specs.aggregates.Aggregates.{aggregate, are_known, condition_typed, groups_typed, has_room, joined, may_group, names_differ, names_in}
 use Rattle.data_set_trees.specs.aggregates.Groups.{grouping_numbers}
 use Rattle.data_set_trees.specs.aggregates.Laws.{GivesStructures}
-use Rattle.data_set_trees.specs.aggregates.Results.{made_by, unordered, with_numbers}
+use Rattle.data_set_trees.specs.aggregates.Results.{made_by, unordered, with_numbers, without_attributes}
 
 -- ---- what typing answers
 
@@ -120,3 +121,9 @@ pub gives_structures : GivesStructures
 gives_structures place grouping fit items having cs a is made typed =
     let given = typed_gives place grouping fit items having cs a typed in
     orders_structures (frame_of (unordered a cs)) (fit_together a cs is given.0 (subst (λ (js : List AggregateItem). All (λ i. may_be_made i.role ≡ true) js) given.1 made))
+
+-- ---- without attributes
+
+-- without plain attributes a structure is one
+pub plain_left : (cs : List Component) → IsStructure cs → IsStructure (without_attributes cs)
+plain_left cs is = leaves_structures (λ number c. not (has_role Attribute c)) (frame_of cs) is

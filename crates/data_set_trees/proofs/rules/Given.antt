@@ -29,7 +29,6 @@ use Rattle.data_set_trees.specs.clauses.Frames.{frame_of, has_role}
 use Rattle.data_set_trees.specs.clauses.Laws.{FitTogether}
 use Rattle.data_set_trees.proofs.clauses.Names.{none-passes}
 use Rattle.data_set_trees.proofs.clauses.Ordered.{orders_structures}
-use Rattle.data_set_trees.proofs.clauses.Parts.{leaves_structures}
 use Rattle.data_set_trees.specs.aggregates.Aggregates.{has_room, names_differ}
 use Rattle.data_set_trees.specs.aggregates.Results.{with_numbers}
 use Rattle.data_set_trees.proofs.aggregates.Grouped.{apart, numbered_all}
@@ -39,7 +38,7 @@ use Rattle.data_set_trees.specs.declared.rules.rules.CheckedHierarchy.TheVariant
 use Rattle.data_set_trees.specs.rules.Datapoints as datapoints
 use Rattle.data_set_trees.specs.rules.Datapoints.{datapoint_checked, kept_numbers, row_components, rule_faults, rules_typed, truth_components}
 use Rattle.data_set_trees.specs.rules.Hierarchies as hierarchies
-use Rattle.data_set_trees.specs.rules.Hierarchies.{checked_checked, computed_checked, condition_faults, content_of, demands_of, hierarchy_checked, measure_kind, rows, rows_demanded, variables_of, without_attributes}
+use Rattle.data_set_trees.specs.rules.Hierarchies.{checked_checked, computed_checked, condition_faults, content_of, demands_of, hierarchy_checked, measure_kind, rows, rows_demanded, variables_of}
 use Rattle.data_set_trees.specs.rules.Laws.{DatapointsGiveStructures, HierarchiesGiveStructures}
 use Rattle.data_set_trees.specs.rules.Rules.{RULE_ID, all_faults, are_known, error_components, fault_number, first_fault, is_among, scope_of_rules, unless_faulty, unmet, value_or}
 
@@ -170,9 +169,6 @@ use_met r stated further checked place cs h e = by_item (bare_number_of (frame_o
 last_met : (ds es : List (Bool × Fault)) → list_all (λ d. d.0) (ds ++ es) ≡ true → list_all (λ d. d.0) es ≡ true
 last_met [] es h = h
 last_met (d ∷ ds) es h = last_met ds es (right d.0 (list_all (λ e. e.0) (ds ++ es)) h)
-
-plain_left : (cs : List Component) → IsStructure cs → IsStructure (without_attributes cs)
-plain_left cs is = leaves_structures (λ number c. not (has_role Attribute c)) (frame_of cs) is
 
 pub hierarchies_give : HierarchiesGiveStructures
 hierarchies_give = record {

@@ -1,9 +1,9 @@
 -- What operators on time series give on a structure is one.
-use Rattle.std.proofs.Common.{◌≡◌, ◌≢◌, ℕ, Bool, true, not, ◌&&◌, List, [], ◌∷◌, ◌++◌, Option, Some, None, Ok}
+use Rattle.std.proofs.Common.{◌≡◌, ◌≢◌, ℕ, Bool, true, ◌&&◌, List, [], ◌∷◌, ◌++◌, Option, Some, None, Ok}
 use Rattle.std.specs.Prelude.{codes}
 use Rattle.std.proofs.lemmas.List.Elements.{All-nil, All-cons, All-append}
 use Rattle.vtl_values.specs.declared.kind.Kind.TheVariants.{Text}
-use Rattle.vtl_values.specs.declared.kind.Role.TheVariants.{Identifier, Measure, Attribute, Viral}
+use Rattle.vtl_values.specs.declared.kind.Role.TheVariants.{Identifier, Measure, Viral}
 use Rattle.vtl_values.specs.declared.place.Place.{Place}
 use Rattle.vtl_values.specs.declared.structure.Codes.TheVariants.{Any}
 use Rattle.vtl_values.specs.declared.structure.Component.{Component}
@@ -14,21 +14,16 @@ use Rattle.scalar_trees.specs.typing.Steps.{◌>>=◌, or_refused}
 use Rattle.scalar_trees.proofs.typing.Sound.{left}
 use Rattle.data_set_trees.specs.clauses.After.{made}
 use Rattle.data_set_trees.specs.clauses.Clauses.{demands}
-use Rattle.data_set_trees.specs.clauses.Frames.{frame_of, has_role, numbers_of}
+use Rattle.data_set_trees.specs.clauses.Frames.{frame_of, numbers_of}
 use Rattle.data_set_trees.specs.clauses.Laws.{FitTogether}
 use Rattle.data_set_trees.proofs.clauses.Ordered.{orders_structures}
-use Rattle.data_set_trees.proofs.clauses.Parts.{leaves_structures}
 use Rattle.data_set_trees.specs.aggregates.Aggregates.{has_room, names_differ}
 use Rattle.data_set_trees.specs.aggregates.Results.{with_numbers}
-use Rattle.data_set_trees.proofs.aggregates.Grouped.{apart, met, numbered_all}
+use Rattle.data_set_trees.proofs.aggregates.Grouped.{apart, met, numbered_all, plain_left}
 use Rattle.data_set_trees.specs.declared.times.time.CheckedTime.{CheckedTime}
 use Rattle.data_set_trees.specs.declared.times.time.CheckedTime.TheVariants as time
 use Rattle.data_set_trees.specs.times.Laws.{GivesStructures}
-use Rattle.data_set_trees.specs.times.Times.{period_number, time_checked, with_duration, without_attributes}
-
--- without plain attributes a structure is one
-plain_left : (cs : List Component) → IsStructure cs → IsStructure (without_attributes cs)
-plain_left cs is = leaves_structures (λ number c. not (has_role Attribute c)) (frame_of cs) is
+use Rattle.data_set_trees.specs.times.Times.{period_number, time_checked, with_duration}
 
 duration_apart : (place : Place) (cs : List Component) (t : CheckedTime) → time_checked PeriodIndicator place cs ≡ Ok t → names_differ (with_duration cs) ≡ true
 duration_apart place cs t h = by_period (period_number cs) h

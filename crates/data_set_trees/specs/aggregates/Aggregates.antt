@@ -15,7 +15,7 @@ use Rattle.vtl_syntax.specs.declared.expr.Item.{Item, out-Item}
 use Rattle.vtl_syntax.specs.declared.words.AggregateFunction.{AggregateFunction}
 use Rattle.vtl_syntax.specs.declared.words.AggregateFunction.TheVariants.{Sum, Avg, Count, Min, Max, Median}
 use Rattle.vtl_syntax.specs.declared.words.ItemRole.{ItemRole}
-use Rattle.scalar_trees.specs.Kinds.{agreed, aggregate_takes, aggregate_gives}
+use Rattle.scalar_trees.specs.Kinds.{NUMERIC, agreed, aggregate_takes, aggregate_gives}
 use Rattle.scalar_trees.specs.declared.tree.CheckedExpr.{CheckedExpr}
 use Rattle.scalar_trees.specs.declared.tree.CheckedExpr.TheVariants as tree
 use Rattle.scalar_trees.specs.declared.typing.scope.Basis.TheVariants.{Group}
@@ -68,6 +68,10 @@ takes f c = not (has_role Measure c) || is_some (agreed (aggregate_takes f) (Som
 
 abbrev pub takes_all : AggregateFunction → List Component → Bool
 takes_all f components = list_all (takes f) components
+
+-- all measures are integers or numbers
+abbrev pub are_numeric : List Component → Bool
+are_numeric components = list_all (λ c. not (has_role Measure c) || is_some (agreed NUMERIC (Some c.kind ∷ []))) components
 
 -- ---- groups
 

@@ -1,9 +1,9 @@
 -- Which components aggregates give (docs/language.md, "Aggregates").
-use Rattle.std.specs.Prelude.{ℕ, ◌++◌, List, map, filter_map, slice_get}
-use Rattle.vtl_values.specs.declared.kind.Role.TheVariants.{Viral}
+use Rattle.std.specs.Prelude.{ℕ, not, ◌++◌, List, map, filter_map, slice_get}
+use Rattle.vtl_values.specs.declared.kind.Role.TheVariants.{Attribute, Viral}
 use Rattle.vtl_values.specs.declared.structure.Component.{Component}
 use Rattle.data_set_trees.specs.clauses.After.{made}
-use Rattle.data_set_trees.specs.clauses.Frames.{frame_of, numbers_of, by_role}
+use Rattle.data_set_trees.specs.clauses.Frames.{frame_of, has_role, kept, numbers_of, by_role}
 use Rattle.data_set_trees.specs.declared.aggregates.aggregate.AggregateItem.{AggregateItem}
 use Rattle.data_set_trees.specs.declared.aggregates.aggregate.CheckedAggregate.{CheckedAggregate}
 
@@ -22,3 +22,7 @@ unordered a components = with_numbers components (a.grouping ++ numbers_of Viral
 -- the components of the result
 abbrev pub grouped : CheckedAggregate → List Component → List Component
 grouped a components = (by_role (frame_of (unordered a components))).components
+
+-- all components but plain attributes
+abbrev pub without_attributes : List Component → List Component
+without_attributes components = (kept (λ number c. not (has_role Attribute c)) (frame_of components)).components

@@ -18,7 +18,8 @@ use Rattle.data_set_trees.specs.declared.rules.rules.CheckedHierarchy.{CheckedHi
 use Rattle.data_set_trees.specs.declared.rules.rules.CheckedHierarchy.TheVariants.{Computed, Checked}
 use Rattle.data_set_trees.specs.declared.rules.rules.HierarchyContent.{HierarchyContent}
 use Rattle.data_set_trees.specs.declared.rules.rules.PointRule.{PointRule}
-use Rattle.data_set_trees.specs.rules.Hierarchies.{are_numeric, has_one_measure}
+use Rattle.data_set_trees.specs.aggregates.Aggregates.{are_numeric}
+use Rattle.data_set_trees.specs.rules.Hierarchies.{has_one_measure}
 
 -- the component with this number is such a one
 abbrev pub is_at : (Component → Bool) → List Component → ℕ → Bool

@@ -1,11 +1,11 @@
 -- What `hierarchy` and `check_hierarchy` are checked to be, or their first fault, which stands at the word of the call
 -- (docs/language.md, "Rulesets", "Faults of rulesets").
-use Rattle.std.specs.Prelude.{ℕ, Bool, false, not, ◌&&◌, ◌||◌, List, [], ◌∷◌, ◌++◌, codes, map, filter, filter_map, flat_map, find, length, nat_eq, Option, Some, is_some, unwrap_or, Result, Ok}
+use Rattle.std.specs.Prelude.{ℕ, Bool, false, not, ◌&&◌, List, [], ◌∷◌, ◌++◌, codes, map, filter, filter_map, flat_map, find, length, nat_eq, Option, unwrap_or, Result, Ok}
 use Rattle.std.specs.List.{list_all}
 use Rattle.std.specs.Option.{option_map_or}
 use Rattle.vtl_values.specs.declared.kind.Kind.{Kind}
 use Rattle.vtl_values.specs.declared.kind.Kind.TheVariants.{Number, Text}
-use Rattle.vtl_values.specs.declared.kind.Role.TheVariants.{Identifier, Measure, Attribute}
+use Rattle.vtl_values.specs.declared.kind.Role.TheVariants.{Identifier, Measure}
 use Rattle.vtl_values.specs.declared.place.Place.{Place}
 use Rattle.vtl_values.specs.declared.structure.Component.{Component}
 use Rattle.vtl_syntax.specs.declared.ruleset.HierarchyRule.{HierarchyRule}
@@ -23,7 +23,6 @@ use Rattle.vtl_syntax.specs.declared.words.Mode.TheVariants.{NonNull}
 use Rattle.vtl_syntax.specs.declared.words.RowsOutput.{RowsOutput}
 use Rattle.vtl_syntax.specs.declared.words.RowsOutput.TheVariants.{Invalid}
 use Rattle.vtl_syntax.specs.declared.words.Sign.TheVariants.{Plus}
-use Rattle.scalar_trees.specs.Kinds.{NUMERIC, agreed}
 use Rattle.scalar_trees.specs.WellTyped.{is_kind}
 use Rattle.scalar_trees.specs.declared.typing.scope.Scope.{Scope}
 use Rattle.scalar_trees.specs.declared.typing.stop.Fault.{Fault}
@@ -32,9 +31,9 @@ use Rattle.scalar_trees.specs.declared.typing.stop.Refusal.{Refusal}
 use Rattle.scalar_trees.specs.typing.Steps.{◌>>=◌, demanded, or_refused}
 use Rattle.data_set_trees.specs.clauses.After.{made}
 use Rattle.data_set_trees.specs.clauses.Clauses.{bare_number_of, passes_at}
-use Rattle.data_set_trees.specs.clauses.Frames.{by_role, frame_of, has_role, kept}
-use Rattle.data_set_trees.specs.aggregates.Aggregates.{has_room, names_differ}
-use Rattle.data_set_trees.specs.aggregates.Results.{with_numbers}
+use Rattle.data_set_trees.specs.clauses.Frames.{by_role, frame_of, has_role}
+use Rattle.data_set_trees.specs.aggregates.Aggregates.{are_numeric, has_room, names_differ}
+use Rattle.data_set_trees.specs.aggregates.Results.{with_numbers, without_attributes}
 use Rattle.data_set_trees.specs.declared.rules.rules.CheckedHierarchy.{CheckedHierarchy}
 use Rattle.data_set_trees.specs.declared.rules.rules.CheckedHierarchy.TheVariants.{Computed, Checked}
 use Rattle.data_set_trees.specs.declared.rules.rules.HierarchyContent.{HierarchyContent}
@@ -44,10 +43,6 @@ use Rattle.data_set_trees.specs.rules.Datapoints.{kept_numbers, numbered, row_co
 use Rattle.data_set_trees.specs.rules.Rules.{are_known, condition_typed, error_components, error_of, fault_in, given, rule_name, scope_of_rules, unless_faulty, unmet}
 
 -- ---- the result
-
--- all components but plain attributes
-abbrev pub without_attributes : List Component → List Component
-without_attributes components = (kept (λ number c. not (has_role Attribute c)) (frame_of components)).components
 
 -- the kind of the one measure; typing sees that there is one
 abbrev pub measure_kind : List Component → Kind
@@ -93,9 +88,6 @@ passes test components number = passes_at test (frame_of components) number
 -- conditions go by identifiers other than the rule component
 abbrev pub may_condition : List Component → ℕ → Variable → Bool
 may_condition components item v = option_map_or (λ number. passes (has_role Identifier) components number && not (nat_eq number item)) (bare_number_of (frame_of components) v.name) false
-
-abbrev pub are_numeric : List Component → Bool
-are_numeric components = list_all (λ c. not (has_role Measure c) || is_some (agreed NUMERIC (Some c.kind ∷ []))) components
 
 abbrev pub has_one_measure : List Component → Bool
 has_one_measure components = nat_eq (length (filter (has_role Measure) components)) 1

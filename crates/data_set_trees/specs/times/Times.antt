@@ -1,26 +1,24 @@
 -- What operators on time series are checked to be, or their first fault, which stands at the word of the call
 -- (docs/language.md, "Time series", "Faults of time series").
-use Rattle.std.specs.Prelude.{◌≡◌, ℕ, ℤ, Bool, true, not, ◌&&◌, ◌||◌, ◌++◌, List, [], ◌∷◌, codes, position, nat_abs, nat_le, Option, Some, is_some, unwrap_or, Result, Ok}
-use Rattle.std.specs.List.{list_all}
+use Rattle.std.specs.Prelude.{◌≡◌, ℕ, ℤ, Bool, true, not, ◌&&◌, ◌++◌, List, [], ◌∷◌, codes, position, nat_abs, nat_le, Option, Some, unwrap_or, Result, Ok}
 use Rattle.vtl_values.specs.Texts.{same_text}
 use Rattle.vtl_values.specs.declared.kind.Kind.TheVariants.{Text}
-use Rattle.vtl_values.specs.declared.kind.Role.TheVariants.{Identifier, Measure, Attribute, Viral}
+use Rattle.vtl_values.specs.declared.kind.Role.TheVariants.{Identifier, Measure, Viral}
 use Rattle.vtl_values.specs.declared.place.Place.{Place}
 use Rattle.vtl_values.specs.declared.structure.Component.{Component}
 use Rattle.vtl_syntax.specs.declared.words.FillSpan.{FillSpan}
 use Rattle.vtl_syntax.specs.declared.words.FillSpan.TheVariants as span
 use Rattle.vtl_syntax.specs.declared.words.TimeFunction.{TimeFunction}
 use Rattle.vtl_syntax.specs.declared.words.TimeFunction.TheVariants.{FlowToStock, StockToFlow, PeriodIndicator}
-use Rattle.scalar_trees.specs.Kinds.{NUMERIC, agreed}
 use Rattle.scalar_trees.specs.WellTyped.{is_kind}
 use Rattle.scalar_trees.specs.declared.typing.stop.Fault.TheVariants.{WrongType, WrongStructure, NameTwice, TooManyComponents, BadConstant}
 use Rattle.scalar_trees.specs.declared.typing.stop.Refusal.{Refusal}
 use Rattle.scalar_trees.specs.typing.Steps.{◌>>=◌, or_refused}
 use Rattle.data_set_trees.specs.clauses.After.{made}
 use Rattle.data_set_trees.specs.clauses.Clauses.{demands}
-use Rattle.data_set_trees.specs.clauses.Frames.{frame_of, has_role, kept, numbers_of, by_role}
-use Rattle.data_set_trees.specs.aggregates.Aggregates.{has_room, names_differ}
-use Rattle.data_set_trees.specs.aggregates.Results.{with_numbers}
+use Rattle.data_set_trees.specs.clauses.Frames.{frame_of, has_role, numbers_of, by_role}
+use Rattle.data_set_trees.specs.aggregates.Aggregates.{are_numeric, has_room, names_differ}
+use Rattle.data_set_trees.specs.aggregates.Results.{with_numbers, without_attributes}
 use Rattle.data_set_trees.specs.declared.times.time.CheckedTime.{CheckedTime}
 use Rattle.data_set_trees.specs.declared.times.time.CheckedTime.TheVariants as time
 
@@ -38,10 +36,6 @@ period_number components = position is_period components
 
 -- ---- the result
 
--- all components but plain attributes
-abbrev pub without_attributes : List Component → List Component
-without_attributes components = (kept (λ number c. not (has_role Attribute c)) (frame_of components)).components
-
 -- identifiers, viral attributes and the letter of the period's frequency, not yet by role
 abbrev pub with_duration : List Component → List Component
 with_duration components = with_numbers components (numbers_of Identifier components ++ numbers_of Viral components) ++ made Measure Text (codes "duration_var") ∷ []
@@ -58,10 +52,6 @@ after (time.Fill span period) components = without_attributes components
 
 abbrev pub Answer : Type 0
 Answer = Result CheckedTime Refusal
-
--- all measures are integers or numbers
-abbrev pub are_numeric : List Component → Bool
-are_numeric components = list_all (λ c. not (has_role Measure c) || is_some (agreed NUMERIC (Some c.kind ∷ []))) components
 
 -- the two sums take numeric measures
 abbrev pub takes_kinds : TimeFunction → List Component → Bool
