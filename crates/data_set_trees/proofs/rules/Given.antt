@@ -31,7 +31,7 @@ use Rattle.data_set_trees.proofs.clauses.Names.{none-passes}
 use Rattle.data_set_trees.proofs.clauses.Ordered.{orders_structures}
 use Rattle.data_set_trees.specs.aggregates.Aggregates.{has_room, names_differ}
 use Rattle.data_set_trees.specs.aggregates.Results.{with_numbers}
-use Rattle.data_set_trees.proofs.aggregates.Grouped.{apart, numbered_all}
+use Rattle.data_set_trees.proofs.aggregates.Grouped.{apart, numbered_all, plain_left}
 use Rattle.data_set_trees.specs.declared.rules.rules.CheckedDatapoint.{CheckedDatapoint}
 use Rattle.data_set_trees.specs.declared.rules.rules.CheckedHierarchy.{CheckedHierarchy}
 use Rattle.data_set_trees.specs.declared.rules.rules.CheckedHierarchy.TheVariants.{Computed, Checked}
