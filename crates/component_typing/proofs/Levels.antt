@@ -10,7 +10,7 @@ use Rattle.vtl_syntax.specs.declared.expr.Clause.{Clause, fold-Clause}
 use Rattle.vtl_syntax.specs.declared.expr.Expr.{Expr, roll-Expr, map-Expr, fold-roll-Expr}
 use Rattle.vtl_syntax.specs.declared.expr.Groups.{Groups, fold-Groups}
 use Rattle.vtl_syntax.specs.declared.expr.Item.{Item, fold-Item}
-use Rattle.vtl_syntax.specs.declared.expr.JoinOperand.{JoinOperand}
+use Rattle.vtl_syntax.specs.declared.expr.JoinOperand.{JoinOperand, out-JoinOperand, roll-out-JoinOperand, fold-roll-JoinOperand}
 use Rattle.vtl_syntax.specs.declared.expr.SubstrRange.{SubstrRange}
 use Rattle.scalar_trees.specs.WellTyped.{Kinds}
 use Rattle.scalar_trees.specs.declared.typing.scope.Basis.{Basis}
@@ -42,6 +42,10 @@ replace_level a b c p = maps-Replace Clause Expr Groups Item JoinOperand SubstrR
 
 pub join_level : (f : JoinFunction) (a b : JoinOperand) (cs : List JoinOperand) (u v w x : Option Clause) (p : Place) → level_of (Expr-F.Join f a b cs u v w x p) ≡ Expr-F.Join f (operand_meaning a) (operand_meaning b) (map operand_meaning cs) (option_map clause_meaning u) (option_map clause_meaning v) (option_map clause_meaning w) (option_map clause_meaning x) p
 join_level f a b cs u v w x p = maps-Join Clause Expr Groups Item JoinOperand SubstrRange Place Meaning ⊤ ⊤ Meaning RangeMeaning clause_meaning meaning groups_meaning item_meaning operand_meaning range_meaning f a b cs u v w x p
+
+-- an operand of a join means what its expression does
+pub operand_means : (o : JoinOperand) → operand_meaning o ≡ meaning (out-JoinOperand o).expr
+operand_means o = ap operand_meaning (sym (roll-out-JoinOperand o)) ∙ fold-roll-JoinOperand Place Meaning ⊤ ⊤ Meaning RangeMeaning clause_place step (λ groups. tt) (λ item. tt) operand_step range_step (out-JoinOperand o)
 
 pub typed_level : (scope : Scope) (basis : Basis) (x : Expr-F Clause Expr Groups Item JoinOperand SubstrRange) (e : Expr) → roll-Expr x ≡ e → typed_step (level_of x) scope basis ≡ typed scope basis e
 typed_level scope basis x e is =

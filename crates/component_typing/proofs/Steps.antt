@@ -1,12 +1,14 @@
 -- What a step answers whose parts answered.
 use Rattle.std.proofs.Common.{◌≡◌, Bool, true, Option, None, Result, Some, Ok, Err, IfOk, IfErr, IsErrAnd, refl, sym, subst, ap, ◌∙◌}
 use Rattle.vtl_values.specs.declared.kind.Kind.{Kind}
+use Rattle.vtl_values.specs.declared.place.Place.{Place}
 use Rattle.scalar_trees.specs.WellTyped.{Kinds, is_exactly, is_of_kind}
+use Rattle.scalar_trees.specs.declared.typing.stop.Fault.TheVariants.{WrongStructure}
 use Rattle.scalar_trees.specs.declared.typing.stop.Refusal.{Refusal}
 use Rattle.scalar_trees.specs.declared.typing.stop.TypeStop.{TypeStop}
 use Rattle.scalar_trees.specs.declared.typing.stop.TypeStop.TheVariants.{Refused, Memory}
 use Rattle.scalar_trees.specs.declared.typing.typed.Typed.{Typed}
-use Rattle.scalar_trees.specs.typing.Steps.{◌>>=◌, Refuses}
+use Rattle.scalar_trees.specs.typing.Steps.{◌>>=◌, refused, Refuses}
 use Rattle.scalar_trees.specs.typing.Sound.{IsTyped}
 use Rattle.scalar_trees.specs.declared.typing.scope.Basis.{Basis}
 use Rattle.scalar_trees.specs.declared.typing.scope.Scope.{Scope}
@@ -39,6 +41,10 @@ stops kinds m stop (Err given) refuses is = record { ok = tt; err = subst (Refus
 -- the exit of a `?` at the first step
 pub ends_there : {A : Type 0} (kinds : Kinds) (m : Result A Refusal) (next : A → Answer) (stop : TypeStop) (r : Result Typed TypeStop) → Refuses m stop → IsErrAnd r (λ given. given ≡ stop) → Answers kinds (m >>= next) r
 ends_there kinds m next stop r refuses given = stops kinds (m >>= next) stop r (stops_there m next stop refuses) given
+
+-- what stands for a data set, whose operands have no fault
+pub misplaced_there : (kinds : Kinds) (operands : Result (Unit {0}) Refusal) (place : Place) (stop : TypeStop) → operands ≡ Ok tt → stop ≡ Refused (record { fault = WrongStructure; place = place }) → Answers kinds (operands >>= (λ met. refused WrongStructure place)) (Err stop)
+misplaced_there kinds operands place stop is at = answers_after kinds operands (λ met. refused WrongStructure place) tt (Err stop) is (record { ok = tt; err = subst (Refuses (refused WrongStructure place)) (sym at) refl; typed = tt })
 
 -- what is answered as meant, and well typed
 pub answers_as : (kinds : Kinds) (m : Answer) (r : Result Typed TypeStop) → IfOk r (λ t. m ≡ Ok t) → IfErr r (Refuses m) → IfOk r (IsTyped kinds) → Answers kinds m r

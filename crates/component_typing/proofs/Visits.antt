@@ -7,6 +7,7 @@ use Rattle.scalar_trees.specs.declared.typing.scope.Scope.{Scope}
 use Rattle.scalar_trees.specs.declared.typing.stop.Refusal.{Refusal}
 use Rattle.scalar_trees.specs.declared.typing.stop.TypeStop.{TypeStop}
 use Rattle.scalar_trees.specs.declared.typing.stop.TypeStop.TheVariants.{Refused, Memory}
+use Rattle.scalar_trees.specs.declared.typing.typed.Typed.{Typed}
 use Rattle.scalar_trees.specs.typing.Steps.{◌>>=◌, Refuses}
 use Rattle.scalar_trees.specs.typing.Scalars.{Answer, Meaning, visited}
 
@@ -31,6 +32,10 @@ module _ (scope : Scope) (basis : Basis) where
       at : (r : Answer) → m.typed scope basis ≡ r → (r >>= (λ a. visited ms scope basis)) ≡ Err refusal → (visited ms scope basis ≡ Err refusal → visited (ms ++ ns) scope basis ≡ Err refusal) → (m.typed scope basis >>= (λ a. visited (ms ++ ns) scope basis)) ≡ Err refusal
       at (Ok t) i j rest = ap (λ (q : Answer). q >>= (λ a. visited (ms ++ ns) scope basis)) i ∙ rest j
       at (Err other) i j rest = ap (λ (q : Answer). q >>= (λ a. visited (ms ++ ns) scope basis)) i ∙ j
+
+  -- operands after two in which no fault was found
+  pub visited_two : (a b : Meaning) (ms : List Meaning) (x y : Typed) → a.typed scope basis ≡ Ok x → b.typed scope basis ≡ Ok y → visited (a ∷ b ∷ ms) scope basis ≡ visited ms scope basis
+  visited_two a b ms x y first second = ap (λ (q : Answer). q >>= (λ t. visited (b ∷ ms) scope basis)) first ∙ ap (λ (q : Answer). q >>= (λ t. visited ms scope basis)) second
 
   module _ {A : Type 0} (f : A → Meaning) (xs : List A) (i : ℕ) (x : A) (within : i < length xs) (here : x ≡ get_or xs i x) where
     one_more : map f (take (i + 1) xs) ≡ map f (take i xs) ++ f x ∷ []
