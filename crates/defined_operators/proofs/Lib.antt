@@ -1,4 +1,5 @@
 pub mod Answered
+pub mod Plain
 pub mod Sorting
 pub mod Standing
 pub mod Unused

@@ -51,7 +51,7 @@ sorted_as_it_is s none = script_stays (sorted s.operators) (λ e. ap (λ (os : L
 replaced_as_it_is : (s : Script) → s.operators ≡ [] → calls_replaced s ≡ s
 replaced_as_it_is s none = script_stays (written s.operators (length s.operators)) (λ e. ap (λ (os : List DefinedOperator). written os (length os) e) none ∙ stays e) [] s (sym none)
 
-written_as_it_is : (s : Script) → s.operators ≡ [] → written_out s ≡ s
+pub written_as_it_is : (s : Script) → s.operators ≡ [] → written_out s ≡ s
 written_as_it_is s none = ap calls_replaced (sorted_as_it_is s none) ∙ replaced_as_it_is s none
 
 pub expanded_as_it_is : (s : Script) → first_fault s ≡ None → s.operators ≡ [] → expanded s ≡ Ok s

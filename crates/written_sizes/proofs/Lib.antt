@@ -1,4 +1,5 @@
 pub mod Capping
+pub mod Depths
 pub mod Exact
 pub mod Folds
 pub mod Forms
@@ -6,9 +7,11 @@ pub mod Linear
 pub mod Numbers
 pub mod Opened
 pub mod Outlining
+pub mod RoomLemmas
 pub mod SeenLemmas
 pub mod Shares
 pub mod SizeLemmas
 pub mod Sizing
 pub mod Telling
+pub mod Tops
 pub mod Writing

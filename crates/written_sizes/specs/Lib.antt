@@ -6,3 +6,4 @@ pub mod Outermost
 pub mod Places
 pub mod SizeFaults
 pub mod Laws
+pub mod Rooms

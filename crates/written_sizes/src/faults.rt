@@ -15,9 +15,9 @@ use std::alloc::{AllocError, Global};
 use vtl_syntax::{DefinedOperator, Script};
 use vtl_values::Place;
 
-const MOST_LEVELS: u64 = 64;
+pub(crate) const MOST_LEVELS: u64 = 64;
 
-const MOST_EXPRESSIONS: u64 = 1_000_000;
+pub(crate) const MOST_EXPRESSIONS: u64 = 1_000_000;
 
 /// The first fault of size of the script once it is written out, if there is one, or want of memory: too many levels at the
 /// first outermost call with a path below it that is too long, or else too many expressions at the call with which there
