@@ -27,3 +27,12 @@ returns-in_err-fails g c =
     answers_after kinds (meant.typed c.args.self.now.scope.now c.args.self.now.basis c.args.condition.now) (λ x. (meant.typed c.args.self.now.scope.now c.args.self.now.basis c.args.holds.now) >>= (λ y. (meant.typed c.args.self.now.scope.now c.args.self.now.basis c.args.fails.now) >>= next x y)) x r c.in_ok-condition.ensures.ok
     (answers_after kinds (meant.typed c.args.self.now.scope.now c.args.self.now.basis c.args.holds.now) (λ y. (meant.typed c.args.self.now.scope.now c.args.self.now.basis c.args.fails.now) >>= next x y) y r c.in_ok-holds.ensures.ok
     (ends_there kinds (meant.typed c.args.self.now.scope.now c.args.self.now.basis c.args.fails.now) (next x y) c.in_err-fails.field-0.0 r c.in_err-fails.ensures.err c.from_residual-in_err-fails.ensures.1))
+
+pub returns-in_err-holds : goal.returns-in_err-holds
+returns-in_err-holds g c =
+    let kinds = kinds_of c.args.self.now.scope.now.columns c.args.self.now.basis in
+    let x = c.in_ok-condition.condition in
+    let next = meant.if_typed c.args.place in
+    let r = c.from_residual-in_err-holds.result in
+    answers_after kinds (meant.typed c.args.self.now.scope.now c.args.self.now.basis c.args.condition.now) (λ x. (meant.typed c.args.self.now.scope.now c.args.self.now.basis c.args.holds.now) >>= (λ y. (meant.typed c.args.self.now.scope.now c.args.self.now.basis c.args.fails.now) >>= next x y)) x r c.in_ok-condition.ensures.ok
+    (ends_there kinds (meant.typed c.args.self.now.scope.now c.args.self.now.basis c.args.holds.now) (λ y. (meant.typed c.args.self.now.scope.now c.args.self.now.basis c.args.fails.now) >>= next x y) c.in_err-holds.field-0.0 r c.in_err-holds.ensures.err c.from_residual-in_err-holds.ensures.1)

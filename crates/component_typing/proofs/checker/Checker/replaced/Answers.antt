@@ -28,3 +28,12 @@ returns-in_err-by g c =
     answers_after kinds (meant.typed c.args.self.now.scope.now c.args.self.now.basis c.args.operand.now) (λ x. (meant.typed c.args.self.now.scope.now c.args.self.now.basis c.args.pattern.now) >>= (λ y. (meant.typed_if (option_map meant.meaning c.args.by.now) c.args.self.now.scope.now c.args.self.now.basis) >>= next x y)) x r c.in_ok-operand.ensures.ok
     (answers_after kinds (meant.typed c.args.self.now.scope.now c.args.self.now.basis c.args.pattern.now) (λ y. (meant.typed_if (option_map meant.meaning c.args.by.now) c.args.self.now.scope.now c.args.self.now.basis) >>= next x y) y r c.in_ok-pattern.ensures.ok
     (ends_there kinds (meant.typed_if (option_map meant.meaning c.args.by.now) c.args.self.now.scope.now c.args.self.now.basis) (next x y) c.in_err-by.field-0.0 r c.in_err-by.ensures.err c.from_residual-in_err-by.ensures.1))
+
+pub returns-in_err-pattern : goal.returns-in_err-pattern
+returns-in_err-pattern g c =
+    let kinds = kinds_of c.args.self.now.scope.now.columns c.args.self.now.basis in
+    let x = c.in_ok-operand.operand in
+    let next = meant.replace_typed c.args.place in
+    let r = c.from_residual-in_err-pattern.result in
+    answers_after kinds (meant.typed c.args.self.now.scope.now c.args.self.now.basis c.args.operand.now) (λ x. (meant.typed c.args.self.now.scope.now c.args.self.now.basis c.args.pattern.now) >>= (λ y. (meant.typed_if (option_map meant.meaning c.args.by.now) c.args.self.now.scope.now c.args.self.now.basis) >>= next x y)) x r c.in_ok-operand.ensures.ok
+    (ends_there kinds (meant.typed c.args.self.now.scope.now c.args.self.now.basis c.args.pattern.now) (λ y. (meant.typed_if (option_map meant.meaning c.args.by.now) c.args.self.now.scope.now c.args.self.now.basis) >>= next x y) c.in_err-pattern.field-0.0 r c.in_err-pattern.ensures.err c.from_residual-in_err-pattern.ensures.1)
