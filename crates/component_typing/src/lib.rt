@@ -1,6 +1,6 @@
 //! Scalar expressions as they are checked, or their first fault.
 //!
-//! `check_expr` answers exactly what `typing_rules` says of an expression: its checked tree with its kind, or the first
+//! `check_expr` answers exactly what `scalar_trees` says of an expression: its checked tree with its kind, or the first
 //! fault at its place. It stands on `operator_typing`, which types each operator, and adds the walk over the tree.
 #![tactic(auto)]
 

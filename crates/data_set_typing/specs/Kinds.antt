@@ -10,12 +10,12 @@ use Rattle.data_set_trees.specs.declared.operand.Operand.TheVariants as operand
 use Rattle.data_set_trees.specs.Components.{measures}
 use Rattle.data_set_trees.specs.Lifted.{slot_of, kinds_fit, answer}
 
--- this measure stands after these
-abbrev pub fits_after : Form → Place → List Operand → List (Option Slot) → Measure → Bool
-fits_after form place operands before m = kinds_fit (answer form place operands (before ++ Some (slot_of m) ∷ []))
+-- this component stands after these
+abbrev pub fits_after : Form → Place → List Operand → List (Option Slot) → Slot → Bool
+fits_after form place operands before slot = kinds_fit (answer form place operands (before ++ Some slot ∷ []))
 
 abbrev pub measures_fit : Form → Place → List Operand → List (Option Slot) → List Measure → Bool
-measures_fit form place operands before ms = list_all (fits_after form place operands before) ms
+measures_fit form place operands before ms = list_all (λ (m : Measure). fits_after form place operands before (slot_of m)) ms
 
 -- each measure of a data set by itself
 abbrev pub operand_fits : Form → Place → List Operand → List (Option Slot) → Operand → Bool

@@ -37,8 +37,8 @@ fn is_wrong_type(fault: Fault) -> bool
 }
 
 impl Call<'_> {
-    /// What the operator is where these stand for its data sets.
-    pub(crate) fn answer(&self, slots: &[Option<Slot>]) -> Result<Typed, TypeStop>
+    /// What the operator of whatever form is where these stand for its data sets.
+    fn answer_on_all(&self, slots: &[Option<Slot>]) -> Result<Typed, TypeStop>
         ensures ok { IfOk result (λ t. meant.answer self.now.form.now self.now.place self.now.operands.now slots.now ≡ Ok t) }
         ensures err { IfErr result (Refuses (meant.answer self.now.form.now self.now.place self.now.operands.now slots.now)) }
     {
@@ -46,15 +46,43 @@ impl Call<'_> {
         formed(self.alloc, self.form, self.place, operands)
     }
 
+    /// What the operator is where these stand for its data sets.
+    pub(crate) fn answer(&self, slots: &[Option<Slot>]) -> Result<Typed, TypeStop>
+        ensures ok { IfOk result (λ t. meant.answer self.now.form.now self.now.place self.now.operands.now slots.now ≡ Ok t) }
+        ensures err { IfErr result (Refuses (meant.answer self.now.form.now self.now.place self.now.operands.now slots.now)) }
+    {
+        match (self.form, self.operands) {
+            (Form::Unary(operator), [operand]) => self.answer_on_one(*operator, operand, slots),
+            (Form::Binary(operator), [left, right]) => {
+                self.answer_on_two(*operator, left, right, slots)
+            }
+            _ => self.answer_on_all(slots),
+        }
+    }
+
+    /// Whether the kinds fit, as told by what the operator is.
+    fn answer_fits(&self, slots: &[Option<Slot>]) -> Result<bool, TypeStop>
+        ensures ok { IfOk result (λ fit. fit ≡ meant.kinds_fit (meant.answer self.now.form.now self.now.place self.now.operands.now slots.now)) }
+        ensures err { IfErr result (λ stop. stop ≡ Memory) }
+    {
+        match self.answer_on_all(slots) {
+            Ok(_) => Ok(true),
+            Err(TypeStop::Refused(refusal)) => Ok(!is_wrong_type(refusal.fault)),
+            Err(TypeStop::Memory) => Err(TypeStop::Memory),
+        }
+    }
+
     /// Whether the kinds fit where these stand for the data sets. Or want of memory.
     pub(crate) fn fits(&self, slots: &[Option<Slot>]) -> Result<bool, TypeStop>
         ensures ok { IfOk result (λ fit. fit ≡ meant.kinds_fit (meant.answer self.now.form.now self.now.place self.now.operands.now slots.now)) }
         ensures err { IfErr result (λ stop. stop ≡ Memory) }
     {
-        match self.answer(slots) {
-            Ok(_) => Ok(true),
-            Err(TypeStop::Refused(refusal)) => Ok(!is_wrong_type(refusal.fault)),
-            Err(TypeStop::Memory) => Err(TypeStop::Memory),
+        match (self.form, self.operands) {
+            (Form::Unary(operator), [operand]) => Ok(self.one_fits(*operator, operand, slots)),
+            (Form::Binary(operator), [left, right]) => {
+                Ok(self.two_fit(*operator, left, right, slots))
+            }
+            _ => self.answer_fits(slots),
         }
     }
 }

@@ -1,16 +1,17 @@
 // Whether the kinds of operands fit.
 ghost use Rattle.std.specs.Prelude.{◌≡◌, [], IfOk, IfErr, OnOk};
 ghost use Rattle.scalar_trees.specs.declared.typing.stop.TypeStop.TheVariants.{Memory};
+ghost use Rattle.data_set_trees.specs.Components as parts;
 ghost use Rattle.data_set_trees.specs.Lifted as meant;
 ghost use Rattle.data_set_typing.specs.Kinds as own;
 
 use crate::call::Call;
-use data_set_parts::components::measures;
-use data_set_parts::measures::slot_of;
-use data_set_trees::{Measure, Operand};
+use data_set_parts::components::has_role;
+use data_set_trees::Operand;
 use scalar_trees::typing::{Slot, TypeStop};
 use sqlite_items::Items;
 use std::alloc::AllocError;
+use vtl_values::{Component, Role};
 
 /// Nothing stands for a data set that comes before others.
 fn push_before(before: &mut Items<Option<Slot>>, operand: &Operand) -> Result<(), AllocError>
@@ -22,24 +23,44 @@ fn push_before(before: &mut Items<Option<Slot>>, operand: &Operand) -> Result<()
     }
 }
 
+/// The component of this number.
+fn slot_at(number: usize, component: &Component) -> Slot
+    ensures { result ≡ record { number = number; kind = component.now.kind } }
+{
+    Slot {
+        number: number as u64,
+        kind: component.kind,
+    }
+}
+
 impl Call<'_> {
-    /// Whether the kinds fit where this measure stands after these.
-    fn fits_after(&self, before: &[Option<Slot>], measure: &Measure) -> Result<bool, TypeStop>
-        ensures ok { IfOk result (λ fit. fit ≡ own.fits_after self.now.form.now self.now.place self.now.operands.now before.now measure.now) }
+    /// Whether the kinds fit where this component stands after these, which are as before then.
+    fn fits_after(&self, before: &mut Items<Option<Slot>>, slot: Slot) -> Result<bool, TypeStop>
+        ensures ok { IfOk result (λ fit. fit ≡ own.fits_after self.now.form.now self.now.place self.now.operands.now before.old slot) }
+        ensures before { IfOk result (λ fit. before.new ≡ before.old) }
+        ensures err { IfErr result (λ stop. stop ≡ Memory) }
+    {
+        before.push(Some(slot))?;
+        let fit = self.fits(before.as_slice())?;
+        before.pop();
+        Ok(fit)
+    }
+
+    /// Whether each measure among the components fits by itself after these.
+    fn measures_fit(
+        &self,
+        before: &[Option<Slot>],
+        components: &[Component],
+    ) -> Result<bool, TypeStop>
+        ensures ok { IfOk result (λ fit. fit ≡ own.measures_fit self.now.form.now self.now.place self.now.operands.now before.now (parts.measures components.now)) }
         ensures err { IfErr result (λ stop. stop ≡ Memory) }
     {
         let mut slots = Items::from_slice(self.alloc, before)?;
-        slots.push(Some(slot_of(measure)))?;
-        self.fits(slots.as_slice())
-    }
-
-    fn measures_fit(&self, before: &[Option<Slot>], measures: &[Measure]) -> Result<bool, TypeStop>
-        ensures ok { IfOk result (λ fit. fit ≡ own.measures_fit self.now.form.now self.now.place self.now.operands.now before.now measures.now) }
-        ensures err { IfErr result (λ stop. stop ≡ Memory) }
-    {
-        for measure in measures {
-            if !self.fits_after(before, measure)? {
-                return Ok(false);
+        for (i, component) in components.iter().enumerate() {
+            if has_role(Role::Measure, component) {
+                if !self.fits_after(&mut slots, slot_at(i, component))? {
+                    return Ok(false);
+                }
             }
         }
         Ok(true)
@@ -52,10 +73,7 @@ impl Call<'_> {
     {
         match operand {
             Operand::Scalar(_) => Ok(true),
-            Operand::DataSet(set) => {
-                let measures = measures(self.alloc, set.structure.components())?;
-                self.measures_fit(before, measures.as_slice())
-            }
+            Operand::DataSet(set) => self.measures_fit(before, set.structure.components()),
         }
     }
 

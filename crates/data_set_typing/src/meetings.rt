@@ -25,16 +25,35 @@ pub(crate) fn identifiers_agree(
     Ok(include(first.as_slice(), second.as_slice()) || include(second.as_slice(), first.as_slice()))
 }
 
-fn has_namesake(measure: &Measure, others: &[Measure]) -> bool
+/// Whether the measure at this place, if there is one, has the name of the other.
+fn is_opposite(measure: &Measure, others: &[Measure], at: usize) -> bool
+    ensures { result ≡ own.is_opposite others.now at measure.now }
+{
+    match measure_at(others, at) {
+        Some(other) => is_called(&measure.name, other),
+        None => false,
+    }
+}
+
+/// Whether one of the others has the name of the measure. It looks first at the place where it most likely stands.
+fn has_namesake(measure: &Measure, others: &[Measure], at: usize) -> bool
     ensures { result ≡ list_any (meant.is_called measure.now.name) others.now }
 {
+    if is_opposite(measure, others, at) {
+        return true;
+    }
     others.iter().any(|other| is_called(&measure.name, other))
 }
 
 fn are_among(measures: &[Measure], others: &[Measure]) -> bool
     ensures { result ≡ meant.are_among measures.now others.now }
 {
-    measures.iter().all(|measure| has_namesake(measure, others))
+    for (i, measure) in measures.iter().enumerate() {
+        if !has_namesake(measure, others, i) {
+            return false;
+        }
+    }
+    true
 }
 
 /// Whether an operator that changes the basic type has one measure to stand on.

@@ -135,14 +135,16 @@ impl Call<'_> {
         changed: &Option<Word>,
         components: &[Component],
         others: &[Component],
+        met: &[(Measure, Measure)],
     ) -> Result<(), TypeStop>
+        requires met { met.now ≡ own.met_of changed.now components.now others.now }
+        requires room { All (λ p. length components.now + p.1.number < 2 ^ 64) met.now }
         ensures ok { IfOk result
             (λ met. own.demands_on_two self.now.form.now self.now.place self.now.operands.now changed.now components.now others.now ≡ Ok met) }
         ensures err { IfErr result (Refuses (own.demands_on_two self.now.form.now self.now.place self.now.operands.now changed.now components.now others.now)) }
     {
-        let met = met_of(self.alloc, changed, components, others)?;
         let each = self.each_fits()?;
-        let pairs = self.pairs_fit(components.len(), met.as_slice())?;
+        let pairs = self.pairs_fit(components.len(), met)?;
         let fit = hold(each, pairs);
         let meet = structures_meet(self.alloc, changed, components, others)?;
         demands(
@@ -161,8 +163,8 @@ impl Call<'_> {
             (λ all. own.items_on_two self.now.form.now self.now.place self.now.operands.now changed.now components.now others.now ≡ Ok all) }
         ensures err { IfErr result (Refuses (own.items_on_two self.now.form.now self.now.place self.now.operands.now changed.now components.now others.now)) }
     {
-        self.demands_on_two(changed, components, others)?;
         let met = met_of(self.alloc, changed, components, others)?;
+        self.demands_on_two(changed, components, others, met.as_slice())?;
         self.pairs_checked(changed, components.len(), met.as_slice())
     }
 

@@ -10,14 +10,14 @@ use scalar_trees::typing::{Slot, Typed};
 use sqlite_items::Items;
 use std::alloc::{AllocError, Global};
 
-fn first_slot(slots: &[Option<Slot>]) -> Option<Slot>
+pub(crate) fn first_slot(slots: &[Option<Slot>]) -> Option<Slot>
     ensures { result ≡ own.first_slot slots.now }
 {
     slots.first().copied().unwrap_or(None)
 }
 
 /// What is left for the operands after this one.
-fn slots_after<'a>(slots: &'a [Option<Slot>], operand: &Operand) -> &'a [Option<Slot>]
+pub(crate) fn slots_after<'a>(slots: &'a [Option<Slot>], operand: &Operand) -> &'a [Option<Slot>]
     ensures { result.now ≡ own.slots_after slots.now operand.now }
 {
     match operand {
@@ -27,7 +27,11 @@ fn slots_after<'a>(slots: &'a [Option<Slot>], operand: &Operand) -> &'a [Option<
 }
 
 /// The operand, or what stands for it.
-fn standing(alloc: Global, slots: &[Option<Slot>], operand: &Operand) -> Result<Typed, AllocError>
+pub(crate) fn standing(
+    alloc: Global,
+    slots: &[Option<Slot>],
+    operand: &Operand,
+) -> Result<Typed, AllocError>
     ensures { IfOk result (λ t. t ≡ own.standing slots.now operand.now) }
 {
     match operand {

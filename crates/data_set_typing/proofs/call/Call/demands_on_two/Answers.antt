@@ -1,17 +1,11 @@
-use Rattle.std.proofs.Common.{◌≡◌, ◌+◌, ◌<◌, ◌^◌, ◌&&◌, Bool, [], ◌∷◌, map, length, sym, subst, ◌∙◌}
-use Rattle.std.specs.List.{All}
+use Rattle.std.proofs.Common.{◌≡◌, ◌&&◌, Bool, [], ◌∷◌, map, length, ◌∙◌}
 use Rattle.scalar_trees.specs.declared.typing.stop.Fault.TheVariants.{WrongType, WrongStructure}
 use Rattle.data_set_trees.specs.clauses.Clauses.{demands}
-use Rattle.data_set_trees.specs.declared.measure.Measure.{Measure}
 use Rattle.data_set_trees.specs.Lifted.{all_fit}
 use Rattle.data_set_trees.specs.Pairs.{both}
 use Rattle.data_set_typing.specs.Plans.{demands_on_two}
 use Rattle.data_set_parts.proofs.Follows.{ok_same, err_same}
 use Rattle.data_set_typing.proofs.call.Call.demands_on_two.Goals as goal
-
-pub pairs_fit-requires : goal.pairs_fit-requires
-pairs_fit-requires c =
-    subst (All (λ (p : Measure × Measure). length c.args.components.now + p.1.number < 2 ^ 64)) (sym c.as_slice.ensures) c.in_ok-met.ensures.room
 
 pub returns-clause-ok : goal.returns-clause-ok
 returns-clause-ok c =
@@ -19,7 +13,7 @@ returns-clause-ok c =
     let s = c.args.components.now in
     let t = c.args.others.now in
     let changed = c.args.changed.now in
-    let met = c.as_slice.ensures ∙ c.in_ok-met.ensures.met in
+    let met = c.requires.met in
     let pairs = c.in_ok-pairs.ensures.ok ∙ (λ i. all_fit call.form.now call.place call.operands.now (map (both (length s)) (met i))) in
     let of = λ (fit meet : Bool). demands call.place ((fit, WrongType) ∷ (meet, WrongStructure) ∷ []) in
     let fit = c.hold-fit.ensures ∙ (λ i. c.in_ok-each.ensures.ok i && pairs i) in
@@ -32,7 +26,7 @@ returns-clause-err c =
     let s = c.args.components.now in
     let t = c.args.others.now in
     let changed = c.args.changed.now in
-    let met = c.as_slice.ensures ∙ c.in_ok-met.ensures.met in
+    let met = c.requires.met in
     let pairs = c.in_ok-pairs.ensures.ok ∙ (λ i. all_fit call.form.now call.place call.operands.now (map (both (length s)) (met i))) in
     let of = λ (fit meet : Bool). demands call.place ((fit, WrongType) ∷ (meet, WrongStructure) ∷ []) in
     let fit = c.hold-fit.ensures ∙ (λ i. c.in_ok-each.ensures.ok i && pairs i) in
