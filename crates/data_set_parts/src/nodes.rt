@@ -73,8 +73,9 @@ fn node_of(
     }
 }
 
-/// A shared operator at its place on these data sets. Or want of memory.
-fn shared(
+/// A shared operator at its place on these data sets, with the structure of its result. Or want of memory. It costs their
+/// number.
+pub fn applied_shared(
     alloc: Global,
     operator: SharedOperator,
     place: Place,
@@ -100,7 +101,7 @@ pub fn applied(
     ensures { IfOk result (λ set. set ≡ meant.applied operator place operands structure) }
 {
     let operator = SharedOperator::of(alloc, operator)?;
-    shared(alloc, operator, place, operands, structure)
+    applied_shared(alloc, operator, place, operands, structure)
 }
 
 fn push_set(sets: &mut Items<DataSet>, operand: Operand) -> Result<(), AllocError>
