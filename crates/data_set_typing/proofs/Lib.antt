@@ -1,7 +1,10 @@
 pub mod Alone
+pub mod Anywhere
 pub mod Few
 pub mod Lifts
 pub mod Measured
 pub mod Opposites
+pub mod Places
 pub mod Rooms
+pub mod Texts
 pub mod Zips

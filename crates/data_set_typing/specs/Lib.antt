@@ -1,4 +1,5 @@
 pub mod Kinds
+pub mod Known
 pub mod Meetings
 pub mod Plans
 pub mod Slots

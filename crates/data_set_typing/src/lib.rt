@@ -10,11 +10,13 @@
 //! `lifted`), and that an error is exactly the first fault that it says, at its place, or want of memory.
 #![tactic(auto)]
 
+mod alike;
 mod call;
 mod checked;
 mod direct;
 mod forms;
 mod kinds;
+mod known;
 mod lifting;
 mod meetings;
 mod names;
@@ -24,4 +26,5 @@ mod plan;
 mod planning;
 mod slots;
 
+pub use known::KnownPlans;
 pub use lifting::lifted;

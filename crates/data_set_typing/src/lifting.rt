@@ -6,13 +6,29 @@ ghost use Rattle.data_set_trees.specs.Trees as trees;
 ghost use Rattle.data_set_typing.specs.Plans as own;
 
 use crate::call::Call;
+use crate::known::KnownPlans;
 use crate::plan::Plan;
-use data_set_parts::nodes::{applied, data_sets};
+use data_set_parts::nodes::{applied_shared, data_sets};
 use data_set_trees::{DataSet, Form, Operand};
 use scalar_trees::typing::TypeStop;
 use sqlite_items::{Boxed, Items};
 use std::alloc::{AllocError, Global};
 use vtl_values::Place;
+
+impl Call<'_> {
+    /// What the operator comes to, as known or else to be known from now on.
+    fn planned_once(&self, known: &KnownPlans) -> Result<Plan, TypeStop>
+        ensures ok { IfOk result (λ plan. own.planned self.now.form.now self.now.place self.now.operands.now ≡ Ok plan) }
+        ensures err { IfErr result (Refuses (own.planned self.now.form.now self.now.place self.now.operands.now)) }
+    {
+        if let Some(plan) = known.plan(self.form, self.operands)? {
+            return Ok(plan);
+        }
+        let plan = self.planned()?;
+        known.keep(self.alloc, self.form, self.place, self.operands, &plan)?;
+        Ok(plan)
+    }
+}
 
 /// A plan carried out on the data sets, or want of memory.
 fn carried_out(
@@ -28,7 +44,7 @@ fn carried_out(
         Plan::Applied {
             operator,
             structure,
-        } => Ok(Operand::DataSet(applied(alloc, operator, place, sets, structure)?)),
+        } => applied_shared(alloc, operator, place, sets, structure).map(Operand::DataSet),
     }
 }
 
@@ -56,6 +72,7 @@ fn finished(
 /// components, since identifiers and names are looked up pair by pair.
 pub fn lifted(
     alloc: Global,
+    known: &KnownPlans,
     form: &Form,
     place: Place,
     operands: Items<Operand>,
@@ -69,6 +86,6 @@ pub fn lifted(
         place,
         operands: operands.as_slice(),
     };
-    let plan = call.planned()?;
+    let plan = call.planned_once(known)?;
     Ok(finished(alloc, place, plan, operands)?)
 }

@@ -17,7 +17,7 @@ use data_set_parts::joins::joined;
 use data_set_parts::measures::slot_of;
 use data_set_parts::results::fitting;
 use data_set_trees::clauses::CheckedMeasure;
-use data_set_trees::{DataSetOperator, Measure};
+use data_set_trees::{DataSetOperator, Measure, SharedOperator};
 use scalar_trees::typing::{Fault, Slot, TypeStop};
 use sqlite_items::Items;
 use std::alloc::{AllocError, Global};
@@ -187,8 +187,9 @@ impl Call<'_> {
             structure,
             other,
         )?;
+        let operator = DataSetOperator::Pair { measures: items };
         Ok(Plan::Applied {
-            operator: DataSetOperator::Pair { measures: items },
+            operator: SharedOperator::of(self.alloc, operator)?,
             structure,
         })
     }

@@ -1,5 +1,5 @@
 // What a scalar operator comes to.
-use data_set_trees::DataSetOperator;
+use data_set_trees::SharedOperator;
 use scalar_trees::typing::Typed;
 use vtl_values::Structure;
 
@@ -8,7 +8,7 @@ use vtl_values::Structure;
 pub(crate) enum Plan {
     Scalar(Typed),
     Applied {
-        operator: DataSetOperator,
+        operator: SharedOperator,
         structure: Structure,
     },
 }

@@ -15,7 +15,7 @@ use data_set_parts::clauses::structure_after;
 use data_set_parts::demands::demands;
 use data_set_parts::nodes::structures_of;
 use data_set_trees::clauses::{CheckedClause, CheckedMeasure};
-use data_set_trees::{DataSetOperator, Operand};
+use data_set_trees::{DataSetOperator, Operand, SharedOperator};
 use scalar_trees::typing::{Fault, TypeStop};
 use sqlite_items::Items;
 use std::alloc::{AllocError, Global};
@@ -45,7 +45,7 @@ fn of_one(
     let clause = CheckedClause::Measures { items };
     let structure = structure_after(alloc, &clause, structure)?;
     Ok(Plan::Applied {
-        operator: DataSetOperator::Clause(clause),
+        operator: SharedOperator::of(alloc, DataSetOperator::Clause(clause))?,
         structure,
     })
 }

@@ -5,6 +5,7 @@ ghost use Rattle.vtl_values.specs.Texts.{same_text};
 ghost use Rattle.statement_typing.specs.Names as meant;
 
 use data_set_trees::{DataSet, DataSetTree, Source};
+use data_set_typing::KnownPlans;
 use indexmap::IndexMap;
 use std::alloc::{AllocError, Global};
 use std::marker::Model;
@@ -19,12 +20,13 @@ pub struct StatementResult {
 }
 
 /// The inputs, and the results of statements so far, by name, and the script's rulesets. Contracts see the first two as
-/// lists of names and what has them.
+/// lists of names and what has them. Beside them are kept what operators on data sets came to before.
 #[derive(Drop)]
 pub struct Names<'a> {
     inputs: &'a Structures,
     rulesets: &'a [Ruleset],
     results: IndexMap<Word, StatementResult>,
+    plans: KnownPlans,
 }
 
 impl<'a> Model for Names<'a> {
@@ -56,6 +58,7 @@ impl<'a> Names<'a> {
             inputs,
             rulesets,
             results: IndexMap::new(alloc),
+            plans: KnownPlans::new(alloc),
         }
     }
 
@@ -88,6 +91,11 @@ impl<'a> Names<'a> {
         ensures { result.now ≡ (meant.naming_of self.now).rulesets }
     {
         self.rulesets
+    }
+
+    /// What operators on data sets came to before.
+    pub(crate) fn plans(&self) -> &KnownPlans {
+        &self.plans
     }
 
     /// From now on the name stands for the result of the statement with this number. At want of memory nothing has changed.

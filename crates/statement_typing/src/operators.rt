@@ -28,7 +28,7 @@ impl<F: Fn(Global, &Names<'_>, &Expr) -> Result<Operand, TypeStop> + Copy> Check
         ensures { Answers (meant.on_operands form.now place (meant.typing operand.now ∷ []) (naming_of self.now.names.now)) result }
     {
         let operands = self.one(operand)?;
-        lifted(self.alloc, form, place, operands)
+        lifted(self.alloc, self.names.plans(), form, place, operands)
     }
 
     /// A scalar operator on two operands.
@@ -45,7 +45,7 @@ impl<F: Fn(Global, &Names<'_>, &Expr) -> Result<Operand, TypeStop> + Copy> Check
         ensures { Answers (meant.on_operands form.now place (meant.typing left.now ∷ meant.typing right.now ∷ []) (naming_of self.now.names.now)) result }
     {
         let operands = self.two(left, right)?;
-        lifted(self.alloc, form, place, operands)
+        lifted(self.alloc, self.names.plans(), form, place, operands)
     }
 
     /// An operator of one operand.
@@ -154,7 +154,13 @@ impl<F: Fn(Global, &Names<'_>, &Expr) -> Result<Operand, TypeStop> + Copy> Check
     {
         let mut operands = self.one(operand)?;
         operands.append(self.range(range)?)?;
-        lifted(self.alloc, &Form::Substr, place, operands)
+        lifted(
+            self.alloc,
+            self.names.plans(),
+            &Form::Substr,
+            place,
+            operands,
+        )
     }
 
     /// `replace(a, pattern, by)`
@@ -173,6 +179,12 @@ impl<F: Fn(Global, &Names<'_>, &Expr) -> Result<Operand, TypeStop> + Copy> Check
     {
         let mut operands = self.two(operand, pattern)?;
         operands.append(self.optional(by)?)?;
-        lifted(self.alloc, &Form::Replace, place, operands)
+        lifted(
+            self.alloc,
+            self.names.plans(),
+            &Form::Replace,
+            place,
+            operands,
+        )
     }
 }

@@ -1,9 +1,7 @@
 use Rattle.std.proofs.Common.{◌≡◌, Ok, List, ap, sym, ◌∙◌}
-use Rattle.vtl_values.specs.declared.structure.Component.{Component}
 use Rattle.data_set_trees.specs.declared.clauses.clause.CheckedMeasure.{CheckedMeasure}
 use Rattle.scalar_trees.specs.typing.Steps.{◌>>=◌}
 use Rattle.operator_typing.proofs.Steps.{goes_on, stops_same, stops_there, fails_there, fails_after}
-use Rattle.data_set_trees.specs.declared.tree.DataSetOperator.TheVariants as operator
 use Rattle.data_set_trees.specs.Pairs.{result_fits, joined}
 use Rattle.data_set_typing.specs.declared.plan.Plan.TheVariants as plan
 use Rattle.data_set_typing.specs.Plans.{items_on_two, of_two}
@@ -46,4 +44,4 @@ returns-clause-ok c =
     let is : c.in_ok-structure.structure ≡ joined items s t = c.in_ok-structure.ensures.ok ∙ ap (λ (l : List CheckedMeasure). joined l s t) c.as_slice.ensures in
     goes_on (of s t) (λ items. fit items >>= (λ fits. Ok (of_two s t items))) items answered
     ∙ goes_on (fit items) (λ fits. Ok (of_two s t items)) tt fits
-    ∙ ap (λ (joint : List Component). Ok (plan.Applied (operator.Pair items) joint)) (sym is)
+    ∙ (λ i. Ok (plan.Applied (sym c.in_ok-of.ensures i) (sym is i)))
