@@ -15,6 +15,15 @@ pub(crate) fn are_one_form(form: &Form, other: &Form) -> bool
         (Form::Unary(operator), Form::Unary(second)) => operator == second,
         (Form::Binary(operator), Form::Binary(second)) => operator == second,
         (Form::Nvl, Form::Nvl) => true,
+        (
+            Form::Round { function, digits },
+            Form::Round {
+                function: second,
+                digits: others,
+            },
+        ) => { function == second && digits == others }
+        (Form::Substr, Form::Substr) => true,
+        (Form::Replace, Form::Replace) => true,
         _ => false,
     }
 }
@@ -83,13 +92,16 @@ fn are_alike(operand: &Operand, other: &Operand) -> bool
     }
 }
 
-/// Whether one or two operands are alike, each with the other at its place.
+/// Whether one to three operands are alike, each with the other at its place.
 pub(crate) fn are_all_alike(operands: &[Operand], others: &[Operand]) -> bool
     ensures { result ≡ true → own.by_structures operands.now ≡ own.by_structures others.now }
 {
     match (operands, others) {
         ([operand], [other]) => are_alike(operand, other),
         ([left, right], [first, second]) => are_alike(left, first) && are_alike(right, second),
+        ([left, middle, right], [first, second, third]) => {
+            are_alike(left, first) && are_alike(middle, second) && are_alike(right, third)
+        }
         _ => false,
     }
 }

@@ -38,7 +38,7 @@ impl Model for Known {
     ghost invariant = { λ known. IsPlanOf known.form known.operands (plan.Applied known.operator known.structure) };
 }
 
-/// The operator, where it is one of those that are kept.
+/// The operator, where it is one of those that are kept: the others stand on data sets of one measure.
 fn kept_form(form: &Form) -> Option<Form>
     ensures { IfSome result (λ kept. kept ≡ form.now) }
 {
@@ -46,6 +46,12 @@ fn kept_form(form: &Form) -> Option<Form>
         Form::Unary(operator) => Some(Form::Unary(*operator)),
         Form::Binary(operator) => Some(Form::Binary(*operator)),
         Form::Nvl => Some(Form::Nvl),
+        Form::Round { function, digits } => Some(Form::Round {
+            function: *function,
+            digits: *digits,
+        }),
+        Form::Substr => Some(Form::Substr),
+        Form::Replace => Some(Form::Replace),
         _ => None,
     }
 }
