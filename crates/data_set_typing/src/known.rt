@@ -38,7 +38,8 @@ impl Model for Known {
     ghost invariant = { λ known. IsPlanOf known.form known.operands (plan.Applied known.operator known.structure) };
 }
 
-/// The operator, where it is one of those that are kept: the others stand on data sets of one measure.
+/// The operator, where it is one of those that are kept. The others give a truth value, so the data sets under them have one
+/// measure; and `if` is put on data sets elsewhere.
 fn kept_form(form: &Form) -> Option<Form>
     ensures { IfSome result (λ kept. kept ≡ form.now) }
 {

@@ -67,8 +67,10 @@ fn finished(
 /// more data sets than the operator takes, where two don't have the identifiers, measures and viral attributes in common that
 /// it needs, or where it changes the basic type and there isn't one measure; else `NameTwice` where its new name is that of
 /// another component of one data set; else `BadConstant` or `BadPattern` of a constant; and on two data sets `NameTwice` where
-/// a name would stand twice in the result, else `TooManyComponents`. It costs the number of measures times the size of the
-/// scalars among the operands, since the operator is typed once or twice on each; and the square of the number of
+/// a name would stand twice in the result, else `TooManyComponents`. `known` has what operators came to before, and is of no
+/// consequence for the answer. Where the operator stands there with data sets of the same structures, it costs the number of
+/// components and of their codes. Else it costs the number of measures times the size of the scalars among the operands,
+/// since the operator is typed on each, twice where it has neither one nor two operands; and the square of the number of
 /// components, since identifiers and names are looked up pair by pair.
 pub fn lifted(
     alloc: Global,
