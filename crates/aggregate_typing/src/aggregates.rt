@@ -6,7 +6,7 @@ ghost use Rattle.data_set_trees.specs.aggregates.Aggregates as meant;
 ghost use Rattle.data_set_trees.specs.aggregates.Results.{grouped};
 ghost use Rattle.aggregate_typing.specs.Parts.{Answers};
 
-use crate::groups::{condition_checked, grouping_numbers, names_in, scope_of_groups};
+use crate::groups::{condition_checked, condition_on, grouping_numbers, names_in, scope_of_groups};
 use crate::items::{items_checked, items_of, takes_all};
 use crate::parts::{Parts, parts_typed};
 use data_set_trees::aggregates::CheckedAggregate;
@@ -27,9 +27,8 @@ fn aggregate_checked(
     ensures { Answers (meant.aggregate_checked function place groups.now components.now) result }
 {
     let grouping = grouping_numbers(alloc, groups, components)?;
-    let scope = scope_of_groups(alloc, grouping.as_slice(), components)?;
     let items = items_of(alloc, function, components)?;
-    let having = condition_checked(alloc, &scope, groups)?;
+    let having = condition_on(alloc, grouping.as_slice(), groups, components)?;
     let parts = Parts {
         grouping,
         items,

@@ -8,7 +8,7 @@ ghost use Rattle.aggregate_typing.specs.Parts.{Answers};
 
 use clause_typing::{has_role, is_among};
 use component_typing::check_operand;
-use operator_typing::scope_of;
+use operator_typing::names_of;
 use scalar_trees::typing::{Basis, Column, Scope, TypeStop, Typed};
 use sqlite_items::{Boxed, Items};
 use std::alloc::{AllocError, Global};
@@ -112,7 +112,7 @@ pub(crate) fn scope_of_groups(
     ensures { IfOk result (λ scope. scope ≡ meant.scope_of_groups grouping.now components.now) }
 {
     Ok(Scope {
-        names: scope_of(alloc, components)?.names,
+        names: names_of(alloc, components)?,
         columns: columns_of(alloc, grouping, components)?,
     })
 }
@@ -142,4 +142,20 @@ pub(crate) fn condition_checked(
         Some(tree) => Ok(Some(check_operand(alloc, scope, Basis::Group, tree)?)),
         None => Ok(None),
     }
+}
+
+/// The same, where groups are formed by the identifiers with these numbers.
+pub(crate) fn condition_on(
+    alloc: Global,
+    grouping: &[u64],
+    groups: &Option<Boxed<Groups>>,
+    components: &[Component],
+) -> Result<Option<Typed>, TypeStop>
+    ensures { Answers (aggregates.condition_checked (meant.scope_of_groups grouping.now components.now) (aggregates.having_of groups.now)) result }
+{
+    if having_of(groups).is_none() {
+        return Ok(None);
+    }
+    let scope = scope_of_groups(alloc, grouping, components)?;
+    condition_checked(alloc, &scope, groups)
 }

@@ -7,7 +7,7 @@ ghost use Rattle.data_set_trees.specs.clauses.After as meant;
 use crate::numbers::{
     has_role, numbers_by_role, numbers_kept, numbers_left, numbers_of_items, numbers_staying,
 };
-use crate::parts::{copy_name, picked};
+use crate::parts::{copy_name, nameless, picked};
 use data_set_trees::clauses::{
     CheckedClause, CheckedItem, CheckedMeasure, CheckedRename, CheckedSubItem, Frame, Target,
 };
@@ -273,4 +273,18 @@ pub fn frame_after(alloc: Global, clause: &CheckedClause, frame: Frame) -> Resul
             by_role(alloc, &frame)
         }
     }
+}
+
+/// The components that a checked clause leaves of a data set of these, in which one that is worked out has no code list. Or
+/// want of memory. It costs the number of components and the size of the clause; for `keep`, `drop`, `sub` and `rename` the
+/// one times the other.
+pub fn components_after(
+    alloc: Global,
+    clause: &CheckedClause,
+    components: &[Component],
+) -> Result<Items<Component>, AllocError>
+    ensures { IfOk result (λ after. after ≡ (meant.after clause.now (meant_frames.frame_of components.now)).components) }
+{
+    let frame = nameless(alloc, components)?;
+    Ok(frame_after(alloc, clause, frame)?.components)
 }

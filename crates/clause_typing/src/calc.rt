@@ -1,17 +1,16 @@
 // `calc`.
-ghost use Rattle.std.specs.Prelude.{◌≡◌, true, Ok, All, IfOk, IfErr};
+ghost use Rattle.std.specs.Prelude.{◌≡◌, true, count_by, Ok, All, IfOk, IfErr};
 ghost use Rattle.scalar_trees.specs.typing.Sound.{IsTyped};
 ghost use Rattle.scalar_trees.specs.typing.Steps.{Refuses};
 ghost use Rattle.data_set_trees.specs.clauses.After.{calculated};
 ghost use Rattle.data_set_trees.specs.clauses.Clauses as meant;
 ghost use Rattle.data_set_trees.specs.clauses.WellTyped.{is_of, is_well_typed, kinds_on};
+ghost use Rattle.clause_typing.specs.Rooms as own;
 
-use crate::after::calculate;
 use crate::choices::may_go;
-use crate::demanded::{demands, has_room};
+use crate::demanded::{MOST_COMPONENTS, demands};
 use crate::differ::targets_differ;
 use crate::names::bare_number_of;
-use crate::parts::copy_frame;
 use data_set_trees::clauses::{CheckedClause, CheckedItem, Frame, Target};
 use scalar_trees::typing::{Fault, TypeStop, Typed};
 use sqlite_items::Items;
@@ -89,18 +88,42 @@ fn may_calculate(frame: &Frame, items: &[CheckedItem]) -> bool
     items.iter().all(|item| may_be_target(frame, &item.target))
 }
 
-/// Whether the result may have as many components, or want of memory.
-fn has_room_for(alloc: Global, frame: &Frame, items: &[CheckedItem]) -> Result<bool, AllocError>
-    ensures { IfOk result (λ room. room ≡ meant.has_room (calculated items.now frame.now)) }
+/// Whether an item is put into a new component.
+fn is_new(item: &CheckedItem) -> bool
+    ensures { result ≡ own.is_new item.now }
 {
-    let mut after = copy_frame(alloc, frame)?;
-    calculate(&mut after, items)?;
-    Ok(has_room(&after))
+    match item.target {
+        Target::Old(_) => false,
+        Target::New(_) => true,
+    }
+}
+
+/// The number of the new components.
+fn count_new(items: &[CheckedItem]) -> usize
+    ensures { result ≡ count_by own.is_new items.now }
+{
+    let mut new = 0;
+    for item in items {
+        if is_new(item) {
+            new += 1;
+        }
+    }
+    new
+}
+
+/// Whether the result may have as many components: those that there are, and the new ones.
+fn has_room_for(frame: &Frame, items: &[CheckedItem]) -> bool
+    ensures { result ≡ meant.has_room (calculated items.now frame.now) }
+{
+    match MOST_COMPONENTS.checked_sub(frame.components.len()) {
+        Some(left) => count_new(items) <= left,
+        None => false,
+    }
 }
 
 /// `calc items`, of items that `item_typed` made of this frame; `WrongRole` where a target is an identifier or a viral
 /// attribute, else `NameTwice` where two items have one target, else `TooManyComponents` where the result would have more
-/// than 64, or want of memory. It costs the number of items and the size of the frame.
+/// than 64, or want of memory. It costs the number of items.
 pub fn calc_typed(
     alloc: Global,
     place: Place,
@@ -116,7 +139,7 @@ pub fn calc_typed(
     let all = items.as_slice();
     let fit = may_calculate(frame, all);
     let once = targets_differ(alloc, all)?;
-    let room = has_room_for(alloc, frame, all)?;
+    let room = has_room_for(frame, all);
     demands(
         place,
         &[

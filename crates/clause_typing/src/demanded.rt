@@ -19,7 +19,7 @@ pub fn demands(place: Place, demands: &[(bool, Fault)]) -> Result<(), TypeStop>
     Ok(())
 }
 
-const MOST_COMPONENTS: usize = 64;
+pub(crate) const MOST_COMPONENTS: usize = 64;
 
 /// Whether a result may have as many components: at most 64.
 pub fn has_room(frame: &Frame) -> bool

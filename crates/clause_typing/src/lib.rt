@@ -20,13 +20,13 @@ mod rename;
 mod sub;
 mod unpivot;
 
-pub use after::{by_role, frame_after, made};
+pub use after::{by_role, components_after, frame_after, made};
 pub use calc::{calc_typed, item_typed, old_role, role_of, target_of};
 pub use choices::{drop_typed, keep_typed};
 pub use demanded::{demands, has_room};
 pub use differ::names_differ;
 pub use names::bare_number_of;
-pub use numbers::{has_role, is_among};
+pub use numbers::{has_role, is_among, numbers_by_role};
 pub use parts::{frame_of, picked, scope_of_frame};
 pub use points::filter_typed;
 pub use rename::rename_typed;

@@ -52,11 +52,9 @@ fn push_role(
     Ok(())
 }
 
-/// The numbers of all components, by role.
-pub(crate) fn numbers_by_role(
-    alloc: Global,
-    components: &[Component],
-) -> Result<Items<u64>, AllocError>
+/// The numbers of all components, by role: of identifiers, measures, attributes and then viral attributes, each in their
+/// order. Or want of memory. It costs the number of components.
+pub fn numbers_by_role(alloc: Global, components: &[Component]) -> Result<Items<u64>, AllocError>
     ensures { IfOk result (λ numbers. numbers ≡ meant.numbers_by_role components.now) }
 {
     let mut numbers = Items::new(alloc);

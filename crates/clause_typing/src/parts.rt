@@ -1,11 +1,11 @@
 // Frames, and parts of them.
-ghost use Rattle.std.specs.Prelude.{◌≡◌, ℕ, filter_map, option_map, position, nat_eq, slice_get, IfOk};
+ghost use Rattle.std.specs.Prelude.{◌≡◌, ℕ, [], filter_map, option_map, position, nat_eq, slice_get, IfOk};
 ghost use Rattle.indexmap.specs.IndexMap.{get};
 ghost use Rattle.data_set_trees.specs.clauses.Frames as meant;
 
 use data_set_trees::clauses::Frame;
 use indexmap::IndexMap;
-use operator_typing::scope_of;
+use operator_typing::{columns_of, names_of};
 use scalar_trees::typing::{Column, Scope, ScopeName};
 use sqlite_items::Items;
 use std::alloc::{AllocError, Global};
@@ -67,7 +67,17 @@ pub fn frame_of(alloc: Global, components: &[Component]) -> Result<Frame, AllocE
     ensures { IfOk result (λ frame. frame ≡ meant.frame_of components.now) }
 {
     Ok(Frame {
-        names: scope_of(alloc, components)?.names,
+        names: names_of(alloc, components)?,
+        components: copy_components(alloc, components)?,
+    })
+}
+
+/// Components under no names, for what goes by the components alone. Or want of memory.
+pub(crate) fn nameless(alloc: Global, components: &[Component]) -> Result<Frame, AllocError>
+    ensures { IfOk result (λ frame. frame ≡ record { names = []; components = components.now }) }
+{
+    Ok(Frame {
+        names: Items::new(alloc),
         components: copy_components(alloc, components)?,
     })
 }
@@ -79,7 +89,7 @@ pub fn scope_of_frame(alloc: Global, frame: &Frame) -> Result<Scope, AllocError>
 {
     Ok(Scope {
         names: copy_names(alloc, frame.names.as_slice())?,
-        columns: scope_of(alloc, frame.components.as_slice())?.columns,
+        columns: columns_of(alloc, frame.components.as_slice())?,
     })
 }
 
@@ -116,8 +126,11 @@ fn moved_names(
 ) -> Result<Items<ScopeName>, AllocError>
     ensures { IfOk result (λ moved. moved ≡ filter_map (meant.moved_name numbers.now) names.now) }
 {
-    let places = places_of(alloc, numbers)?;
     let mut moved = Items::new(alloc);
+    if names.is_empty() {
+        return Ok(moved);
+    }
+    let places = places_of(alloc, numbers)?;
     for name in names {
         if let Some(name) = moved_name(&places, name)? {
             moved.push(name)?;

@@ -6,7 +6,7 @@ ghost use Rattle.data_set_parts.specs.Results as own;
 
 use crate::nodes::applied;
 use crate::results::listed_unlisted;
-use clause_typing::{frame_after, frame_of};
+use clause_typing::components_after;
 use data_set_trees::clauses::CheckedClause;
 use data_set_trees::{DataSet, DataSetOperator};
 use sqlite_items::Items;
@@ -22,9 +22,8 @@ pub fn structure_after(
     requires { IsStructure (own.structure_after clause.now structure.now) }
     ensures { IfOk result (λ after. after ≡ own.structure_after clause.now structure.now) }
 {
-    let frame = frame_of(alloc, structure.components())?;
-    let after = frame_after(alloc, clause, frame)?;
-    let list = listed_unlisted(alloc, after.components.as_slice())?;
+    let after = components_after(alloc, clause, structure.components())?;
+    let list = listed_unlisted(alloc, after.as_slice())?;
     Structure::of(alloc, list)
 }
 

@@ -23,7 +23,7 @@ pub use leaves::{component_typed, literal_typed};
 pub use names::{bare_number, member, member_number, named};
 pub use numbers::round_typed;
 pub use operands::{Agreed, agreeing, joint, wanted, wanted_if, widened};
-pub use scopes::scope_of;
+pub use scopes::{columns_of, names_of, scope_of};
 pub use sets::{between_typed, in_typed};
 pub use signs::{
     comparison_operator, or_operator, prefix_operator, product_operator, sum_operator,

@@ -17,7 +17,8 @@ fn column_of(component: &Component) -> Column
     }
 }
 
-fn names_of(alloc: Global, components: &[Component]) -> Result<Items<ScopeName>, AllocError>
+/// The bare names of a data set's components, each with its component's number. Or want of memory. It costs their number.
+pub fn names_of(alloc: Global, components: &[Component]) -> Result<Items<ScopeName>, AllocError>
     ensures { IfOk result (λ names. names ≡ meant.names_from 0 components.now) }
 {
     let mut names = Items::new(alloc);
@@ -31,7 +32,8 @@ fn names_of(alloc: Global, components: &[Component]) -> Result<Items<ScopeName>,
     Ok(names)
 }
 
-fn columns_of(alloc: Global, components: &[Component]) -> Result<Items<Column>, AllocError>
+/// What a data set's components are to expressions on a point, or want of memory. It costs their number.
+pub fn columns_of(alloc: Global, components: &[Component]) -> Result<Items<Column>, AllocError>
     ensures { IfOk result (λ columns. columns ≡ map meant.column_of components.now) }
 {
     let mut columns = Items::new(alloc);

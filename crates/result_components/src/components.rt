@@ -4,7 +4,7 @@ ghost use Rattle.vtl_values.specs.declared.kind.Role.TheVariants.{Attribute};
 ghost use Rattle.data_set_trees.specs.aggregates.Results as results;
 ghost use Rattle.data_set_trees.specs.clauses.Frames as meant;
 
-use clause_typing::{frame_of, has_role};
+use clause_typing::{has_role, numbers_by_role};
 use sqlite_items::Items;
 use std::alloc::{AllocError, Global};
 use vtl_values::{Component, Role};
@@ -83,6 +83,6 @@ pub fn without_attributes(
 pub fn by_role(alloc: Global, components: &[Component]) -> Result<Items<Component>, AllocError>
     ensures { IfOk result (λ ordered. ordered ≡ (meant.by_role (meant.frame_of components.now)).components) }
 {
-    let frame = frame_of(alloc, components)?;
-    Ok(clause_typing::by_role(alloc, &frame)?.components)
+    let numbers = numbers_by_role(alloc, components)?;
+    with_numbers(alloc, components, numbers.as_slice())
 }

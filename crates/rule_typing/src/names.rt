@@ -5,7 +5,7 @@ ghost use Rattle.rule_typing.specs.Named as parts;
 
 use clause_typing::bare_number_of;
 use data_set_trees::clauses::Frame;
-use operator_typing::scope_of;
+use operator_typing::columns_of;
 use scalar_trees::typing::{Scope, ScopeName};
 use sqlite_items::Items;
 use std::alloc::{AllocError, Global};
@@ -70,6 +70,6 @@ pub(crate) fn scope_of_rules(
 {
     Ok(Scope {
         names: scope_names(alloc, frame, variables)?,
-        columns: scope_of(alloc, frame.components.as_slice())?.columns,
+        columns: columns_of(alloc, frame.components.as_slice())?,
     })
 }

@@ -9,7 +9,6 @@ ghost use Rattle.expression_rules.specs.OnSets as rules;
 ghost use Rattle.statement_typing.specs.Parts.{Answers};
 
 use aggregate_typing::{aggr_typed, aggregate_typed};
-use clause_typing::frame_of;
 use data_set_parts::clauses::on_one;
 use data_set_parts::results::plain;
 use data_set_trees::aggregates::CheckedAggregate;
@@ -25,7 +24,7 @@ use vtl_syntax::words::{
 };
 use vtl_syntax::{Groups, Item, Over};
 use vtl_values::{Integer, Place};
-use window_typing::{frame_after, offset_on, window_on};
+use window_typing::{offset_on, window_on};
 
 /// The operand as a data set; `WrongStructure` where it is a scalar.
 pub(crate) fn set_of(place: Place, operand: Operand) -> Result<DataSet, TypeStop>
@@ -95,9 +94,8 @@ pub(crate) fn with_window(
     requires { IsStructure (rules.window_after window set.structure) }
     ensures { IfOk result (λ o. o ≡ operands.DataSet (rules.with_operator (operator.Window window) (rules.window_after window) place set)) }
 {
-    let frame = frame_of(alloc, set.structure.components())?;
-    let after = frame_after(alloc, &window, frame)?;
-    let structure = plain(alloc, after.components.as_slice())?;
+    let after = window_typing::components_after(alloc, &window, set.structure.components())?;
+    let structure = plain(alloc, after.as_slice())?;
     let operator = DataSetOperator::Window(window);
     Ok(Operand::DataSet(on_one(alloc, operator, place, set, structure)?))
 }

@@ -3,6 +3,7 @@ use Rattle.std.specs.Prelude.{ℕ, Bool, List, [], ◌∷◌, filter_map, slice_
 use Rattle.vtl_values.specs.declared.kind.Kind.{Kind}
 use Rattle.vtl_values.specs.declared.kind.Role.TheVariants.{Measure}
 use Rattle.vtl_values.specs.declared.place.Place.{Place}
+use Rattle.vtl_values.specs.declared.structure.Component.{Component}
 use Rattle.vtl_syntax.specs.declared.expr.Over.{Over}
 use Rattle.scalar_trees.specs.declared.typing.stop.Fault.TheVariants.{UnknownComponent, WrongType, WrongStructure, WrongRole, NameTwice, TooManyComponents, BadConstant}
 use Rattle.scalar_trees.specs.declared.typing.stop.Refusal.{Refusal}
@@ -13,10 +14,11 @@ use Rattle.data_set_trees.specs.aggregates.Aggregates.{has_room, names_differ}
 use Rattle.data_set_trees.specs.declared.windows.analytic.Analytic.{Analytic}
 use Rattle.data_set_trees.specs.declared.windows.analytic.Analytic.TheVariants as analytic
 use Rattle.data_set_trees.specs.declared.windows.analytic.AnalyticMeasure.{AnalyticMeasure}
+use Rattle.data_set_trees.specs.declared.windows.analytic.Parts.{Parts}
 use Rattle.data_set_trees.specs.windows.Functions.{window_gives}
-use Rattle.data_set_trees.specs.windows.Parts.{knows, may_part}
+use Rattle.data_set_trees.specs.windows.Parts.{knows, may_part, parts_of}
 use Rattle.data_set_trees.specs.windows.Results.{unordered}
-use Rattle.data_set_trees.specs.windows.Windows.{takes_all, window_of, with_parts}
+use Rattle.data_set_trees.specs.windows.Windows.{takes_all, window_of}
 use Rattle.window_typing.specs.declared.measures.OnEach.{OnEach}
 use Rattle.window_typing.specs.declared.measures.OnEach.TheVariants.{Window, Offset}
 
@@ -30,12 +32,12 @@ abbrev pub operator : OnEach → Over → ℕ → Analytic
 operator (Window f) over number = window_of f number over
 operator (Offset f offset) over number = analytic.Offset f number offset
 
--- what is worked out of it, if there is one
-abbrev pub measure_of : Frame → Over → OnEach → ℕ → Option AnalyticMeasure
-measure_of frame over o number = option_map (λ c. record { name = c.name; kind = gives o c.kind; value = with_parts frame over (operator o over number) }) (slice_get frame.components number)
+-- what is worked out of it in these parts, if there is one
+abbrev pub measure_in : Parts → Over → OnEach → List Component → ℕ → Option AnalyticMeasure
+measure_in parts over o components number = option_map (λ c. record { name = c.name; kind = gives o c.kind; value = record { analytic = operator o over number; parts = parts } }) (slice_get components number)
 
 abbrev pub on_measures : Frame → Over → OnEach → List AnalyticMeasure
-on_measures frame over o = filter_map (measure_of frame over o) (numbers_of Measure frame.components)
+on_measures frame over o = filter_map (measure_in (parts_of frame over) over o frame.components) (numbers_of Measure frame.components)
 
 -- all that is asked where the measures that are worked out are these
 abbrev pub fits : Place → Frame → Over → List Kind → Bool → Bool → List AnalyticMeasure → Result (Unit {0}) Refusal

@@ -60,6 +60,47 @@ fn calculated(alloc: Global, items: &[AnalyticItem], frame: Frame) -> Result<Fra
     clause_typing::frame_after(alloc, &CheckedClause::Calc { items }, frame)
 }
 
+/// The components of a data set that has these measures in place of those that there are.
+fn measured_components(
+    alloc: Global,
+    items: &[AnalyticMeasure],
+    components: &[Component],
+) -> Result<Items<Component>, AllocError>
+    ensures { IfOk result (λ after. after ≡ (frames.by_role (frames.frame_of (meant.unordered items.now components.now))).components) }
+{
+    let unordered = unordered(alloc, items, components)?;
+    result_components::by_role(alloc, unordered.as_slice())
+}
+
+/// The components after `calc`.
+fn calculated_components(
+    alloc: Global,
+    items: &[AnalyticItem],
+    components: &[Component],
+) -> Result<Items<Component>, AllocError>
+    ensures { IfOk result (λ after. after ≡ (frames.by_role (clauses.calculated (map meant.as_item items.now) (frames.frame_of components.now))).components) }
+{
+    let items = as_items(alloc, items)?;
+    clause_typing::components_after(alloc, &CheckedClause::Calc { items }, components)
+}
+
+/// The components after analytic operators on a data set of these, in which one that is worked out has no code list. Or want
+/// of memory. It costs the number of components and of the items.
+pub fn components_after(
+    alloc: Global,
+    window: &CheckedWindow,
+    components: &[Component],
+) -> Result<Items<Component>, AllocError>
+    ensures { IfOk result (λ after. after ≡ (meant.after window.now (frames.frame_of components.now)).components) }
+{
+    match window {
+        CheckedWindow::Measures { items } => {
+            measured_components(alloc, items.as_slice(), components)
+        }
+        CheckedWindow::Calc { items } => calculated_components(alloc, items.as_slice(), components),
+    }
+}
+
 /// What a frame is after analytic operators: the components of their result and the names of these, in which a component
 /// that is worked out has no code list. Or want of memory. It costs the number of components and names in the frame and of
 /// the items.

@@ -15,7 +15,7 @@ mod operands;
 mod parts;
 mod points;
 
-pub use after::frame_after;
+pub use after::{components_after, frame_after};
 pub use calc::calc_checked;
 pub use items::{analytic_item, scalar_item};
 pub use measures::{offset_on, window_on};

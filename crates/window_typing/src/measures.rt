@@ -1,5 +1,5 @@
 // Analytic operators on a data set.
-ghost use Rattle.std.specs.Prelude.{◌≡◌, ◌||◌, not, is_some, map, Some, ◌∷◌, [], Ok, IfOk, IfErr};
+ghost use Rattle.std.specs.Prelude.{◌≡◌, ◌||◌, not, is_some, filter_map, map, Some, ◌∷◌, [], Ok, IfOk, IfErr};
 ghost use Rattle.vtl_values.specs.declared.kind.Role.TheVariants.{Measure};
 ghost use Rattle.vtl_values.specs.Structures.{IsStructure};
 ghost use Rattle.scalar_trees.specs.Kinds as kinds;
@@ -11,11 +11,11 @@ ghost use Rattle.window_typing.specs.Each as each;
 
 use crate::after::unordered;
 use crate::functions::{takes_window, window_gives, window_of, window_takes};
-use crate::parts::{knows, may_part, with_parts};
+use crate::parts::{copy_parts, knows, may_part, parts_of, with_parts};
 use crate::points::{end_of, is_offset, may_state, points_within, start_of};
 use clause_typing::{demands, frame_of, has_role};
 use data_set_trees::clauses::Frame;
-use data_set_trees::windows::{Analytic, AnalyticMeasure, CheckedWindow};
+use data_set_trees::windows::{Analytic, AnalyticMeasure, CheckedAnalytic, CheckedWindow, Parts};
 use result_components::{has_room, int_var, names_differ, numbers_of};
 use scalar_trees::typing::{Fault, TypeStop};
 use scalar_trees::{agreed, any_kind};
@@ -58,24 +58,48 @@ impl OnEach {
     }
 }
 
-/// What is worked out of the component with this number, if there is one.
-fn measure_of(
+/// What is worked out of the component with this number in these parts, if there is one.
+fn measure_in(
     alloc: Global,
-    frame: &Frame,
+    parts: &Parts,
     over: &Over,
     operator: &OnEach,
     number: u64,
+    components: &[Component],
 ) -> Result<Option<AnalyticMeasure>, AllocError>
-    ensures { IfOk result (λ measure. measure ≡ each.measure_of frame.now over.now operator.now number) }
+    ensures { IfOk result (λ measure. measure ≡ each.measure_in parts.now over.now operator.now components.now number) }
 {
-    match frame.components.get(number as usize) {
+    match components.get(number as usize) {
         Some(component) => Ok(Some(AnalyticMeasure {
             name: component.name.copy()?,
             kind: operator.gives(component.kind),
-            value: with_parts(alloc, frame, over, operator.of(number, over))?,
+            value: CheckedAnalytic {
+                analytic: operator.of(number, over),
+                parts: copy_parts(alloc, parts)?,
+            },
         })),
         None => Ok(None),
     }
+}
+
+/// What is worked out of each component with one of these numbers.
+fn measures_in(
+    alloc: Global,
+    parts: &Parts,
+    over: &Over,
+    operator: &OnEach,
+    numbers: &[u64],
+    components: &[Component],
+) -> Result<Items<AnalyticMeasure>, AllocError>
+    ensures { IfOk result (λ items. items ≡ filter_map (each.measure_in parts.now over.now operator.now components.now) numbers.now) }
+{
+    let mut items = Items::new(alloc);
+    for number in numbers {
+        if let Some(item) = measure_in(alloc, parts, over, operator, *number, components)? {
+            items.push(item)?;
+        }
+    }
+    Ok(items)
 }
 
 /// The operator on each measure.
@@ -87,14 +111,17 @@ fn on_measures(
 ) -> Result<Items<AnalyticMeasure>, AllocError>
     ensures { IfOk result (λ items. items ≡ each.on_measures frame.now over.now operator.now) }
 {
-    let numbers = numbers_of(alloc, Role::Measure, frame.components.as_slice())?;
-    let mut items = Items::new(alloc);
-    for number in numbers.as_slice() {
-        if let Some(item) = measure_of(alloc, frame, over, operator, *number)? {
-            items.push(item)?;
-        }
-    }
-    Ok(items)
+    let components = frame.components.as_slice();
+    let numbers = numbers_of(alloc, Role::Measure, components)?;
+    let parts = parts_of(alloc, frame, over)?;
+    measures_in(
+        alloc,
+        &parts,
+        over,
+        operator,
+        numbers.as_slice(),
+        components,
+    )
 }
 
 /// The measure in which `count` has the number of the window's points.
@@ -212,8 +239,7 @@ fn fits(
 /// `WrongStructure` where a window is stated for `ratio_to_report`, else `WrongRole` where a part isn't made by
 /// identifiers, else `NameTwice` where two components of the result would have one name, else `TooManyComponents` where it
 /// would have more than 64, else `BadConstant` where the window reaches further than 1,000 points; or want of memory. The
-/// components of the result of a structure are a structure. It costs the square of the number of components times the size
-/// of `over`.
+/// components of the result of a structure are a structure. It costs the number of components times the size of `over`.
 pub fn window_on(
     alloc: Global,
     function: WindowFunction,

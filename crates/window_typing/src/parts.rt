@@ -128,13 +128,23 @@ fn order_of(
 }
 
 /// The parts that `over` makes of a frame, or want of memory.
-fn parts_of(alloc: Global, frame: &Frame, over: &Over) -> Result<Parts, AllocError>
+pub(crate) fn parts_of(alloc: Global, frame: &Frame, over: &Over) -> Result<Parts, AllocError>
     ensures { IfOk result (λ parts. parts ≡ meant.parts_of frame.now over.now) }
 {
     let named = named_numbers(alloc, frame, partition_names(over))?;
     Ok(Parts {
         partition: numbers_among(alloc, named.as_slice(), frame.components.as_slice())?,
         order: order_of(alloc, frame, order_items(over))?,
+    })
+}
+
+/// The same parts, or want of memory.
+pub(crate) fn copy_parts(alloc: Global, parts: &Parts) -> Result<Parts, AllocError>
+    ensures { IfOk result (λ copy. copy ≡ parts.now) }
+{
+    Ok(Parts {
+        partition: Items::from_slice(alloc, parts.partition.as_slice())?,
+        order: Items::from_slice(alloc, parts.order.as_slice())?,
     })
 }
 

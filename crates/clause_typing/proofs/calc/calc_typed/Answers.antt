@@ -15,8 +15,8 @@ returns-in_err-demands-clause-err c =
     let items = c.args.items in
     let fit : c.may_calculate-fit.result ≡ may_calculate frame items = c.may_calculate-fit.ensures ∙ ap (may_calculate frame) c.as_slice-all.ensures in
     let once : c.in_ok-once.once ≡ targets_differ items = c.in_ok-once.ensures ∙ ap targets_differ c.as_slice-all.ensures in
-    let room : c.in_ok-room.room ≡ has_room (calculated items frame) = c.in_ok-room.ensures ∙ ap (λ is. has_room (calculated is frame)) c.as_slice-all.ensures in
-    let given : List (Bool × Fault) = (c.may_calculate-fit.result, WrongRole) ∷ (c.in_ok-once.once, NameTwice) ∷ (c.in_ok-room.room, TooManyComponents) ∷ [] in
+    let room : c.has_room_for-room.result ≡ has_room (calculated items frame) = c.has_room_for-room.ensures ∙ ap (λ is. has_room (calculated is frame)) c.as_slice-all.ensures in
+    let given : List (Bool × Fault) = (c.may_calculate-fit.result, WrongRole) ∷ (c.in_ok-once.once, NameTwice) ∷ (c.has_room_for-room.result, TooManyComponents) ∷ [] in
     let meant : List (Bool × Fault) = (may_calculate frame items, WrongRole) ∷ (targets_differ items, NameTwice) ∷ (has_room (calculated items frame), TooManyComponents) ∷ [] in
     refuses c.args.place given meant (clause.Calc items) c.from_residual-in_err-demands.result c.in_err-demands.field-0.0
     (λ i. (fit i, WrongRole) ∷ (once i, NameTwice) ∷ (room i, TooManyComponents) ∷ [])
@@ -28,7 +28,7 @@ returns-clause-typed c =
     let items = c.args.items in
     let fit = c.may_calculate-fit.result in
     let once = c.in_ok-once.once in
-    let room = c.in_ok-room.room in
+    let room = c.has_room_for-room.result in
     let holds = hold c.args.place ((fit, WrongRole) ∷ (once, NameTwice) ∷ (room, TooManyComponents) ∷ []) c.in_ok-demands.field-0 c.in_ok-demands.ensures.ok in
     let may : may_calculate frame items ≡ true = sym (c.may_calculate-fit.ensures ∙ ap (may_calculate frame) c.as_slice-all.ensures) ∙ left fit (once && (room && true)) holds in
     λ all typed. items_well_typed frame items may all typed

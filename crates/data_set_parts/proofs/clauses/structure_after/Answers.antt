@@ -1,6 +1,6 @@
-use Rattle.std.proofs.Common.{◌≡◌, map, ap, sym, subst, ◌∙◌}
+use Rattle.std.proofs.Common.{◌≡◌, List, map, ap, sym, subst, ◌∙◌}
 use Rattle.vtl_values.specs.Structures.{IsStructure}
-use Rattle.data_set_trees.specs.declared.clauses.frame.Frame.{Frame}
+use Rattle.vtl_values.specs.declared.structure.Component.{Component}
 use Rattle.data_set_trees.specs.clauses.Frames.{frame_of}
 use Rattle.data_set_trees.specs.clauses.After.{after}
 use Rattle.data_set_trees.specs.Components.{unlisted}
@@ -11,7 +11,6 @@ pub of-requires : goal.of-requires
 of-requires c =
     let clause = c.args.clause.now in
     let s = c.args.structure.now in
-    let frame : c.in_ok-frame.frame ≡ frame_of s = c.in_ok-frame.ensures ∙ ap frame_of c.components.ensures.value in
-    let left : c.in_ok-after.after ≡ after clause (frame_of s) = c.in_ok-after.ensures ∙ ap (after clause) frame in
-    let list : c.in_ok-list.list.items ≡ structure_after clause s = c.in_ok-list.ensures ∙ ap (map unlisted) (c.as_slice.ensures ∙ ap (λ (f : Frame). f.components) left) in
+    let left : c.in_ok-after.after ≡ (after clause (frame_of s)).components = c.in_ok-after.ensures ∙ ap (λ (cs : List Component). (after clause (frame_of cs)).components) c.components.ensures.value in
+    let list : c.in_ok-list.list.items ≡ structure_after clause s = c.in_ok-list.ensures ∙ ap (map unlisted) (c.as_slice.ensures ∙ left) in
     subst IsStructure (sym list) c.requires
