@@ -27,7 +27,7 @@ fn digit(alloc: Global, number: usize) -> Result<Word, AllocError>
 {
     let mut text = String::new(alloc);
     text.push((48 + number as u8) as char)?;
-    Ok(Word::from(text))
+    Word::from_string(text)
 }
 
 fn numbered_one(

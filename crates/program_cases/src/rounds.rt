@@ -137,7 +137,19 @@ fn rescripted(alloc: Global, production: &mut Production, step: &[Json]) -> Resu
     }
 }
 
-// One more round of one statement, in which x is this number.
+// Opens one more round, in which x is this number.
+fn open_next(alloc: Global, production: &mut Production, by: u64, number: u64) -> Result<()>
+    ensures { production.new.script ≡ production.old.script }
+{
+    let row = format!(in alloc; "+x,{number}")?;
+    let revision = one_row(alloc, "A", row.as_str())?;
+    if production.judge_one(by, revision).is_err() || production.open_round(by).is_err() {
+        bail!("no round {number}");
+    }
+    Ok(())
+}
+
+// One more round of one statement.
 fn next_round<R: Threads + Sync>(
     rt: &R,
     alloc: Global,
@@ -147,11 +159,7 @@ fn next_round<R: Threads + Sync>(
 ) -> Result<String>
     ensures { production.new.script ≡ production.old.script }
 {
-    let row = format!(in alloc; "+x,{number}")?;
-    let revision = one_row(alloc, "A", row.as_str())?;
-    if production.judge_one(by, revision).is_err() || production.open_round(by).is_err() {
-        bail!("no round {number}");
-    }
+    open_next(alloc, production, by, number)?;
     match take_turn(rt, alloc, production, by) {
         Ok(given) => given_text(alloc, &given),
         Err(stop) => Ok(format!(in alloc; "{stop:?}")?),

@@ -10,7 +10,7 @@ use vtl_values::{Integer, Word};
 fn number_text(alloc: Global, number: u64) -> Result<Word, AllocError>
     ensures { IfOk result (λ text. text ≡ decimal number) }
 {
-    Ok(Word::from(format!(in alloc; "{number}")?))
+    Word::from_string(format!(in alloc; "{number}")?)
 }
 
 /// What the rule at this place is called, or want of memory.

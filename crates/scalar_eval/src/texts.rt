@@ -19,7 +19,7 @@ pub(crate) fn trim(alloc: Global, value: &Value) -> Result<Value, AllocError>
     ensures { IfOk result (λ v. v ≡ meant.of_text trimmed value.now) }
 {
     match value {
-        Value::Text(word) => Ok(made(scalar_texts::trim(alloc, word.as_str())?)),
+        Value::Text(word) => made(scalar_texts::trim(alloc, word.as_str())?),
         _ => Ok(Value::Null),
     }
 }
@@ -29,7 +29,7 @@ pub(crate) fn ltrim(alloc: Global, value: &Value) -> Result<Value, AllocError>
     ensures { IfOk result (λ v. v ≡ meant.of_text ltrimmed value.now) }
 {
     match value {
-        Value::Text(word) => Ok(made(scalar_texts::ltrim(alloc, word.as_str())?)),
+        Value::Text(word) => made(scalar_texts::ltrim(alloc, word.as_str())?),
         _ => Ok(Value::Null),
     }
 }
@@ -39,7 +39,7 @@ pub(crate) fn rtrim(alloc: Global, value: &Value) -> Result<Value, AllocError>
     ensures { IfOk result (λ v. v ≡ meant.of_text rtrimmed value.now) }
 {
     match value {
-        Value::Text(word) => Ok(made(scalar_texts::rtrim(alloc, word.as_str())?)),
+        Value::Text(word) => made(scalar_texts::rtrim(alloc, word.as_str())?),
         _ => Ok(Value::Null),
     }
 }
@@ -49,7 +49,7 @@ pub(crate) fn upper(alloc: Global, value: &Value) -> Result<Value, AllocError>
     ensures { IfOk result (λ v. v ≡ meant.of_text uppercase value.now) }
 {
     match value {
-        Value::Text(word) => Ok(made(scalar_texts::upper(alloc, word.as_str())?)),
+        Value::Text(word) => made(scalar_texts::upper(alloc, word.as_str())?),
         _ => Ok(Value::Null),
     }
 }
@@ -59,15 +59,15 @@ pub(crate) fn lower(alloc: Global, value: &Value) -> Result<Value, AllocError>
     ensures { IfOk result (λ v. v ≡ meant.of_text lowercase value.now) }
 {
     match value {
-        Value::Text(word) => Ok(made(scalar_texts::lower(alloc, word.as_str())?)),
+        Value::Text(word) => made(scalar_texts::lower(alloc, word.as_str())?),
         _ => Ok(Value::Null),
     }
 }
 
-fn made(text: String) -> Value
-    ensures { result ≡ TextOf (chars (string_bytes text)) }
+fn made(text: String) -> Result<Value, AllocError>
+    ensures { IfOk result (λ v. v ≡ TextOf (chars (string_bytes text))) }
 {
-    Value::Text(Word::from(text))
+    Ok(Value::Text(Word::from_string(text)?))
 }
 
 /// `||` of VTL.
@@ -75,7 +75,7 @@ pub(crate) fn joined(alloc: Global, a: &Value, b: &Value) -> Result<Value, Alloc
     ensures { IfOk result (λ v. v ≡ meant.joined a.now b.now) }
 {
     match (a, b) {
-        (Value::Text(a), Value::Text(b)) => Ok(made(concat(alloc, a.as_str(), b.as_str())?)),
+        (Value::Text(a), Value::Text(b)) => made(concat(alloc, a.as_str(), b.as_str())?),
         _ => Ok(Value::Null),
     }
 }
@@ -130,13 +130,13 @@ fn cut(
         return Ok(Value::Null);
     };
     match count {
-        None => Ok(made(substr(alloc, word.as_str(), start.value, None)?)),
-        Some(Value::Integer(count)) => Ok(made(substr(
+        None => made(substr(alloc, word.as_str(), start.value, None)?),
+        Some(Value::Integer(count)) => made(substr(
             alloc,
             word.as_str(),
             start.value,
             Some(count.value),
-        )?)),
+        )?),
         Some(_) => Ok(Value::Null),
     }
 }
@@ -154,13 +154,8 @@ pub(crate) fn replacing(
         return Ok(Value::Null);
     };
     match new {
-        None => Ok(made(replace(alloc, word.as_str(), old.as_str(), "")?)),
-        Some(Value::Text(new)) => Ok(made(replace(
-            alloc,
-            word.as_str(),
-            old.as_str(),
-            new.as_str(),
-        )?)),
+        None => made(replace(alloc, word.as_str(), old.as_str(), "")?),
+        Some(Value::Text(new)) => made(replace(alloc, word.as_str(), old.as_str(), new.as_str())?),
         Some(_) => Ok(Value::Null),
     }
 }

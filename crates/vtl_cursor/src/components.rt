@@ -79,14 +79,13 @@ impl Parse for Rename {
 
     /// `component to name`
     fn parse(_alloc: Global, cursor: &mut Cursor) -> Result<Self, Stop> {
-        let place = cursor.first_place();
         let component = component(cursor)?;
         cursor.word(Keyword::To)?;
         let name = cursor.name()?;
         Ok(Rename {
+            place: component.place,
             component,
             name: name.value,
-            place,
         })
     }
 }

@@ -167,6 +167,16 @@ pub fn sign_of(text: &[u8]) -> Option<Sign>
     first_sign(&SIGNS, text)
 }
 
+/// Whether the text begins so. Most texts don't, which their first byte tells.
+fn begins_with(text: &[u8], front: &[u8]) -> bool
+    ensures { result ≡ starts_with nat_eq text.now front.now }
+{
+    match (text, front) {
+        ([byte, behind @ ..], [first, rest @ ..]) => *byte == *first && behind.starts_with(rest),
+        _ => front.is_empty(),
+    }
+}
+
 /// The first of the signs that the text begins with.
 fn first_sign(signs: &[Sign], text: &[u8]) -> Option<Sign>
     ensures { result ≡ find (λ sign. starts_with nat_eq text.now (sign_text sign)) signs.now }
@@ -174,7 +184,7 @@ fn first_sign(signs: &[Sign], text: &[u8]) -> Option<Sign>
     signs
         .iter()
         .copied()
-        .find(|sign| text.starts_with(sign.text().as_bytes()))
+        .find(|sign| begins_with(text, sign.text().as_bytes()))
 }
 
 /// The bytes as a text, if they are UTF-8.

@@ -22,7 +22,7 @@ pub fn write_tokens(alloc: Global, kinds: &[TokenKind]) -> Result<Word, AllocErr
         push_with_gap(alloc, &mut text, kind, behind)?;
         rest = behind;
     }
-    Ok(Word::from(text))
+    Word::from_string(text)
 }
 
 /// Writes a token, and what stands between it and those behind it.

@@ -15,7 +15,7 @@ pub fn show_value(alloc: Global, value: &Value) -> Result<Word, AllocError>
 {
     let mut text = String::new(alloc);
     show_value_in(&mut text, value)?;
-    Ok(Word::from(text))
+    Word::from_string(text)
 }
 
 /// Puts the text that writes a value in place of what stands in `text`, whose room is used again. At want of memory some

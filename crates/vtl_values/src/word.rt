@@ -1,31 +1,24 @@
 // Texts.
 ghost use Rattle.std.specs.Prelude.{◌≡◌, ℕ, List, IfOk, chars, string_bytes, encode_utf8_all};
+ghost use Rattle.std.specs.Arc.{arc_str_bytes};
 
 use std::alloc::{AllocError, Global};
 use std::cmp::Ordering;
 use std::hash::{Hash, Hasher};
 use std::marker::Model;
+use std::sync::ArcStr;
 
-/// A text. Contracts see it as the list of its characters; its order is the order of its bytes as UTF-8.
+/// A text. Contracts see it as the list of its characters; its order is the order of its bytes as UTF-8. Copies share
+/// the text.
 #[derive(Debug, Drop)]
 pub struct Word {
-    text: String,
+    text: ArcStr,
 }
 
 impl Model for Word {
     ghost Value = { List ℕ };
 
-    ghost view = { λ w. chars (string_bytes w.text) };
-}
-
-impl From<String> for Word {
-    ghost use Rattle.std.specs.Prelude.{◌≡◌, chars, string_bytes};
-
-    ghost from_gives = { λ text word. word ≡ chars (string_bytes text) };
-
-    fn from(text: String) -> Self {
-        Word { text }
-    }
+    ghost view = { λ w. chars (arc_str_bytes w.text) };
 }
 
 impl Word {
@@ -34,7 +27,16 @@ impl Word {
         ensures { IfOk result (λ word. word ≡ chars text.now) }
     {
         Ok(Word {
-            text: String::from_str(alloc, text)?,
+            text: ArcStr::from_str(alloc, text)?,
+        })
+    }
+
+    /// The characters of a string, which is moved, or want of memory.
+    pub fn from_string(text: String) -> Result<Word, AllocError>
+        ensures { IfOk result (λ word. word ≡ chars (string_bytes text)) }
+    {
+        Ok(Word {
+            text: ArcStr::from_string(text)?,
         })
     }
 
@@ -46,7 +48,7 @@ impl Word {
         self.text.as_str()
     }
 
-    /// An equal text, or want of memory.
+    /// An equal text, which shares the bytes, or want of memory.
     pub fn copy(&self) -> Result<Word, AllocError>
         ensures { IfOk result (λ word. word ≡ self.now) }
     {

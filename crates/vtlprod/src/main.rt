@@ -29,13 +29,13 @@ fn exit_code(outcome: Outcome) -> ExitCode
 }
 
 fn main(rt: HostRuntime) -> ExitCode {
-    let Ok(words) = arguments(&rt) else {
+    let (Ok(words), Ok(last)) = (arguments(&rt), Word::from_str(rt.alloc(), "")) else {
         return ExitCode::from(7);
     };
     let mut shelf = FolderShelf {
         rt: &rt,
         faults: 0,
-        last: Word::from(String::new(rt.alloc())),
+        last,
         kept: 0,
     };
     let mut out = StdoutSink {

@@ -4,4 +4,4 @@ use Rattle.vtl_values.proofs.word.Word.as_str.Goals as goal
 
 pub returns-clause-bytes : goal.returns-clause-bytes
 returns-clause-bytes c =
-    c.as_str.ensures.value ∙ sym (encodes-chars _ (IsUtf8-string_bytes c.self.inside.text)) ∙ ap encode_utf8_all c.self.view_is
+    c.as_str.ensures.value ∙ sym (encodes-chars _ (IsUtf8-string_bytes c.self.inside.text.text.value)) ∙ ap encode_utf8_all c.self.view_is

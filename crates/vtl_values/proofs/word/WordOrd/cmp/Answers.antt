@@ -6,4 +6,4 @@ use Rattle.vtl_values.proofs.word.WordOrd.cmp.Goals as goal
 pub returns : goal.returns
 returns c =
     rw (← c.self.view_is, ← c.other.view_is)
-    (c.cmp.ensures ∙ slice_cmp-chars _ _ (IsUtf8-string_bytes c.self.inside.text) (IsUtf8-string_bytes c.other.inside.text))
+    (c.cmp.ensures ∙ slice_cmp-chars _ _ (IsUtf8-string_bytes c.self.inside.text.text.value) (IsUtf8-string_bytes c.other.inside.text.text.value))
