@@ -31,6 +31,7 @@ pub fn typed_script(alloc: Global, structures: Structures, text: &[u8]) -> Resul
 {
     let tokens = read_tokens(alloc, text)?;
     let script = read_tree(alloc, tokens.as_slice())?;
+    drop(tokens);
     let written = written_out(alloc, script)?;
     structures_of(alloc, &written, structures)
 }

@@ -39,8 +39,8 @@ fn parted(alloc: Global, mut sets: Items<DataSet>) -> Result<Parts, AllocError>
     ensures trees { IfOk result (λ parts. parts.trees ≡ map (λ (d : DataSet). d.tree) sets) }
     ensures structures { IfOk result (λ parts. parts.structures ≡ map (λ (d : DataSet). d.structure) sets) }
 {
-    let mut trees = Items::new(alloc);
-    let mut structures = Items::new(alloc);
+    let mut trees = Items::from_vec(Vec::with_capacity(alloc, sets.len())?);
+    let mut structures = Items::from_vec(Vec::with_capacity(alloc, sets.len())?);
     while let Some(set) = take_set(&mut sets) {
         let DataSet { tree, structure } = set;
         trees.push(tree)?;
@@ -117,7 +117,7 @@ fn push_set(sets: &mut Items<DataSet>, operand: Operand) -> Result<(), AllocErro
 pub fn data_sets(alloc: Global, mut operands: Items<Operand>) -> Result<Items<DataSet>, AllocError>
     ensures { IfOk result (λ sets. sets ≡ meant.data_sets operands) }
 {
-    let mut sets = Items::new(alloc);
+    let mut sets = Items::from_vec(Vec::with_capacity(alloc, operands.len())?);
     while let Some(operand) = take_operand(&mut operands) {
         push_set(&mut sets, operand)?;
     }

@@ -16,6 +16,3 @@ pub mod table;
 pub use pages::Pages;
 pub use release::Release;
 pub use table::{rows_text, values_row, words_row};
-
-#[cfg(test)]
-mod tests;

@@ -19,6 +19,14 @@ pub struct Release {
     pub pages: Items<Pages>,
 }
 
+// Asks for a proof that threads may share the value.
+fn share<T: Send + Sync>(_value: &T) {}
+
+// Threads may share a release.
+fn is_shared_by_threads(release: &Release) {
+    share(release);
+}
+
 impl Release {
     /// An equal release, whose pages share what they hold, or want of memory.
     pub fn copy(&self, alloc: Global) -> Result<Release, AllocError>

@@ -11,10 +11,9 @@ ghost use Rattle.structure_files.specs.Refusals.{Refuses, one_by_one};
 
 use crate::json::{as_list, text_in};
 use crate::stop::{Fault, Path, StructureStop};
-use indexmap::IndexSet;
 use serde_json::Value;
 use std::alloc::Global;
-use vtl_values::{CodeList, Codes, Kind, Role, Word};
+use vtl_values::{CodeList, Codes, Kind, NewCodes, Role, Word};
 
 fn is_name(text: &str) -> bool
     ensures { result ≡ is_name text.now }
@@ -96,29 +95,26 @@ pub fn kind_in(path: Path, value: &Value) -> Result<Kind, StructureStop>
 fn with_code(
     alloc: Global,
     path: Path,
-    codes: IndexSet<Word>,
+    codes: NewCodes,
     value: &Value,
-) -> Result<IndexSet<Word>, StructureStop>
-    ensures ok { IfOk result (λ more. next_code path codes.keys (view value.now) ≡ Ok more.keys) }
-    ensures err { IfErr result (Refuses (next_code path codes.keys (view value.now))) }
+) -> Result<NewCodes, StructureStop>
+    ensures ok { IfOk result (λ more. next_code path codes (view value.now) ≡ Ok more) }
+    ensures err { IfErr result (Refuses (next_code path codes (view value.now))) }
 {
     let Some(text) = value.as_str() else {
         return Err(StructureStop::at(Fault::BadCodes, path));
     };
     let code = Word::from_str(alloc, text)?;
-    let mut codes = codes;
-    let (_, is_new) = codes.insert_full(code)?;
-    if !is_new {
-        return Err(StructureStop::at(Fault::BadCodes, path));
-    }
-    Ok(codes)
+    codes
+        .with(code)?
+        .ok_or(StructureStop::at(Fault::BadCodes, path))
 }
 
-fn all_codes(alloc: Global, path: Path, values: &[Value]) -> Result<IndexSet<Word>, StructureStop>
-    ensures ok { IfOk result (λ codes. one_by_one (next_code path) (map view values.now) ≡ Ok codes.keys) }
+fn all_codes(alloc: Global, path: Path, values: &[Value]) -> Result<NewCodes, StructureStop>
+    ensures ok { IfOk result (λ codes. one_by_one (next_code path) (map view values.now) ≡ Ok codes) }
     ensures err { IfErr result (Refuses (one_by_one (next_code path) (map view values.now))) }
 {
-    let mut codes = IndexSet::new(alloc);
+    let mut codes = NewCodes::new(alloc);
     for value in values {
         codes = with_code(alloc, path, codes, value)?;
     }

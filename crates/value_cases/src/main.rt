@@ -1,10 +1,11 @@
 //! Cases of values and of data: how values are read, written and ordered, arithmetic on numbers, operators on texts,
-//! patterns, the combination of viral codes, structure files, and held operands.
+//! patterns, the combination of viral codes, structure files, held operands, and the real shelf and sink.
 //!
 //! `data/` holds the cases, and `stdout` what must come of them by the rules that their files name.
 #![tactic(auto)]
 
 mod decimals;
+mod edges;
 mod held;
 mod structures;
 mod texts;
@@ -16,10 +17,13 @@ use case_files::lines::answer_file;
 use serde_json::Value;
 use std::alloc::Global;
 use std::env;
+use std::rt::Files;
 
 // The answer of the call that a case names.
-fn answer(alloc: Global, call: &str, words: &[Value]) -> Result<String> {
+fn answer<R: Files>(rt: &R, alloc: Global, call: &str, words: &[Value]) -> Result<String> {
     match call {
+        "files" => edges::files(rt, alloc, words),
+        "writes" => edges::writes(alloc, words),
         "held" => held::answer(alloc, words),
         "read" => values::read(alloc, words),
         "order" => values::order(alloc, words),
@@ -50,7 +54,11 @@ fn text_answer(alloc: Global, call: &str, words: &[Value]) -> Result<String> {
 
 fn main(rt: HostRuntime) -> Result<()> {
     for name in env::args(&rt)?.skip(1) {
-        answer_file(&rt, name.as_str(), &answer)?;
+        answer_file(
+            &rt,
+            name.as_str(),
+            &|alloc: Global, call: &str, words: &[Value]| { answer(&rt, alloc, call, words) },
+        )?;
     }
     Ok(())
 }

@@ -1,4 +1,5 @@
 pub mod CharsOfTexts
+pub mod CodesKnown
 pub mod Digits
 pub mod Fractions
 pub mod Numbers

@@ -1,3 +1,4 @@
+pub mod Codes
 pub mod Numerals
 pub mod Order
 pub mod Ranges

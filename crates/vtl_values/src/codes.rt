@@ -1,19 +1,67 @@
 // Code lists.
-ghost use Rattle.std.specs.Prelude.{◌≡◌, ◌≢◌, AllPairs, IfOk};
+ghost use Rattle.std.specs.Prelude.{◌≡◌, ◌≢◌, ◌∷◌, [], ◌++◌, true, false, AllPairs, IfOk, MatchOption};
 ghost use Rattle.std.specs.List.{list_any};
 ghost use Rattle.vtl_values.specs.Texts.{same_text};
 
 use crate::word::Word;
-use indexmap::IndexSet;
+use sqlite_items::Items;
 use std::alloc::{AllocError, Global};
+use std::collections::HashSet;
 use std::marker::Model;
 use std::sync::Arc;
+
+/// Codes that are listed one after the other, each once. Contracts see the list of them.
+#[derive(Debug, Drop)]
+pub struct NewCodes {
+    in_order: Items<Word>,
+    known: HashSet<Word>,
+}
+
+impl Model for NewCodes {
+    ghost use Rattle.std.specs.Prelude.{List, ℕ};
+    ghost use Rattle.vtl_values.specs.Codes.{AreKnown};
+
+    ghost Value = { List (List ℕ) };
+
+    ghost view = { λ c. c.in_order };
+
+    ghost invariant = { λ c. AreKnown c.in_order c.known };
+}
+
+impl NewCodes {
+    /// No codes.
+    pub fn new(alloc: Global) -> NewCodes
+        ensures { result ≡ [] }
+    {
+        NewCodes {
+            in_order: Items::new(alloc),
+            known: HashSet::new(alloc),
+        }
+    }
+
+    /// With this code at the end, or none where it stands already. Or want of memory. Its time doesn't grow with the
+    /// list.
+    pub fn with(self, code: Word) -> Result<Option<NewCodes>, AllocError>
+        ensures { IfOk result (λ more. MatchOption more (list_any (same_text code) self ≡ true) (λ codes. (codes ≡ self ++ code ∷ []) × (list_any (same_text code) self ≡ false))) }
+    {
+        let NewCodes {
+            mut in_order,
+            mut known,
+        } = self;
+        let listed = code.copy()?;
+        if !known.insert(code)? {
+            return Ok(None);
+        }
+        in_order.push(listed)?;
+        Ok(Some(NewCodes { in_order, known }))
+    }
+}
 
 /// The codes that a component may have, each once; those of a viral attribute stand by rising rank. Contracts see the
 /// list of them. Copies share the codes.
 #[derive(Debug, Drop)]
 pub struct CodeList {
-    codes: Arc<IndexSet<Word>>,
+    codes: Arc<NewCodes>,
 }
 
 impl Model for CodeList {
@@ -22,13 +70,13 @@ impl Model for CodeList {
 
     ghost Value = { List (List ℕ) };
 
-    ghost view = { λ c. (arc_value c.codes).keys };
+    ghost view = { λ c. arc_value c.codes };
 }
 
 impl CodeList {
     /// The list of these codes, or want of memory.
-    pub fn of(alloc: Global, codes: IndexSet<Word>) -> Result<CodeList, AllocError>
-        ensures { IfOk result (λ list. list ≡ codes.keys) }
+    pub fn of(alloc: Global, codes: NewCodes) -> Result<CodeList, AllocError>
+        ensures { IfOk result (λ list. list ≡ codes) }
     {
         Ok(CodeList {
             codes: Arc::new(alloc, codes)?,
@@ -48,7 +96,7 @@ impl CodeList {
     pub fn contains(&self, text: &Word) -> bool
         ensures { result ≡ list_any (same_text text.now) self.now }
     {
-        self.codes.contains(text)
+        self.codes.known.contains(text)
     }
 
     /// The codes in their order. They differ.
@@ -56,6 +104,6 @@ impl CodeList {
         ensures codes { result.now ≡ self.now }
         ensures differ { AllPairs (λ a b. a ≢ b) self.now }
     {
-        self.codes.as_slice()
+        self.codes.in_order.as_slice()
     }
 }

@@ -18,7 +18,7 @@ pub mod structures;
 pub mod value;
 pub mod word;
 
-pub use codes::CodeList;
+pub use codes::{CodeList, NewCodes};
 pub use kind::{Kind, Role};
 pub use number::{Decimal, Integer};
 pub use place::Place;

@@ -8,5 +8,5 @@ use Rattle.structure_files.proofs.fields.all_codes.Goals as goal
 pub returns-in_err-codes-clause-err : goal.returns-in_err-codes-clause-err
 returns-in_err-codes-clause-err c =
     passed_on (one_by_one (next_code c.args.path) (map view c.args.values.now)) c.from_residual.result c.in_err-codes.field-0.0
-    (stops (next_code c.args.path) view c.args.values.now c.loop-value.value-index c.value-item.result c.loop-value.codes.keys c.in_err-codes.field-0.0 c.loop-value-test.true c.value-item.is c.loop-value.invariant c.in_err-codes.ensures.err)
+    (stops (next_code c.args.path) view c.args.values.now c.loop-value.value-index c.value-item.result c.loop-value.codes c.in_err-codes.field-0.0 c.loop-value-test.true c.value-item.is c.loop-value.invariant c.in_err-codes.ensures.err)
     c.from_residual.ensures.1

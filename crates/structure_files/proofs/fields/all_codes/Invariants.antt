@@ -5,4 +5,4 @@ use Rattle.structure_files.specs.Refusals.{one_by_one}
 use Rattle.structure_files.proofs.fields.all_codes.Given as goal
 
 abbrev pub invariant-loop-value : goal.invariant-loop-value
-invariant-loop-value l = one_by_one (next_code l.path) (map view (take l.value-index l.values)) ≡ Ok l.codes.keys
+invariant-loop-value l = one_by_one (next_code l.path) (map view (take l.value-index l.values)) ≡ Ok l.codes
