@@ -35,18 +35,51 @@ struct Parts {
     structures: Items<Structure>,
 }
 
+impl Parts {
+    /// None yet, with room for this many.
+    fn with_capacity(alloc: Global, capacity: usize) -> Result<Parts, AllocError>
+        ensures trees { IfOk result (λ parts. parts.trees ≡ []) }
+        ensures structures { IfOk result (λ parts. parts.structures ≡ []) }
+    {
+        Ok(Parts {
+            trees: Items::from_vec(Vec::with_capacity(alloc, capacity)?),
+            structures: Items::from_vec(Vec::with_capacity(alloc, capacity)?),
+        })
+    }
+
+    fn push(&mut self, set: DataSet) -> Result<(), AllocError>
+        ensures trees { OnOk result (self.new.trees ≡ self.old.trees ++ set.tree ∷ []) }
+        ensures structures { OnOk result (self.new.structures ≡ self.old.structures ++ set.structure ∷ []) }
+    {
+        let DataSet { tree, structure } = set;
+        self.trees.push(tree)?;
+        self.structures.push(structure)
+    }
+}
+
 fn parted(alloc: Global, mut sets: Items<DataSet>) -> Result<Parts, AllocError>
     ensures trees { IfOk result (λ parts. parts.trees ≡ map (λ (d : DataSet). d.tree) sets) }
     ensures structures { IfOk result (λ parts. parts.structures ≡ map (λ (d : DataSet). d.structure) sets) }
 {
-    let mut trees = Items::from_vec(Vec::with_capacity(alloc, sets.len())?);
-    let mut structures = Items::from_vec(Vec::with_capacity(alloc, sets.len())?);
+    let mut parts = Parts::with_capacity(alloc, sets.len())?;
     while let Some(set) = take_set(&mut sets) {
-        let DataSet { tree, structure } = set;
-        trees.push(tree)?;
-        structures.push(structure)?;
+        parts.push(set)?;
     }
-    Ok(Parts { trees, structures })
+    Ok(parts)
+}
+
+/// The data sets among the operands.
+fn parted_among(alloc: Global, mut operands: Items<Operand>) -> Result<Parts, AllocError>
+    ensures trees { IfOk result (λ parts. parts.trees ≡ map (λ (d : DataSet). d.tree) (meant.data_sets operands)) }
+    ensures structures { IfOk result (λ parts. parts.structures ≡ map (λ (d : DataSet). d.structure) (meant.data_sets operands)) }
+{
+    let mut parts = Parts::with_capacity(alloc, operands.len())?;
+    while let Some(operand) = take_operand(&mut operands) {
+        if let Operand::DataSet(set) = operand {
+            parts.push(set)?;
+        }
+    }
+    Ok(parts)
 }
 
 /// A shared operator at its place on data sets by parts, with the structure of its result twice.
@@ -73,18 +106,18 @@ fn node_of(
     }
 }
 
-/// A shared operator at its place on these data sets, with the structure of its result. Or want of memory. It costs their
-/// number.
+/// A shared operator at its place on the data sets among the operands, with the structure of its result. Or want of memory.
+/// It costs their number.
 pub fn applied_shared(
     alloc: Global,
     operator: SharedOperator,
     place: Place,
-    operands: Items<DataSet>,
+    operands: Items<Operand>,
     structure: Structure,
 ) -> Result<DataSet, AllocError>
-    ensures { IfOk result (λ set. set ≡ meant.applied operator place operands structure) }
+    ensures { IfOk result (λ set. set ≡ meant.applied operator place (meant.data_sets operands) structure) }
 {
-    let parts = parted(alloc, operands)?;
+    let parts = parted_among(alloc, operands)?;
     let copy = structure.copy()?;
     Ok(node_of(operator, place, parts, structure, copy))
 }
@@ -101,7 +134,9 @@ pub fn applied(
     ensures { IfOk result (λ set. set ≡ meant.applied operator place operands structure) }
 {
     let operator = SharedOperator::of(alloc, operator)?;
-    applied_shared(alloc, operator, place, operands, structure)
+    let parts = parted(alloc, operands)?;
+    let copy = structure.copy()?;
+    Ok(node_of(operator, place, parts, structure, copy))
 }
 
 fn push_set(sets: &mut Items<DataSet>, operand: Operand) -> Result<(), AllocError>

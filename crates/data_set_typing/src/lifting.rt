@@ -8,10 +8,10 @@ ghost use Rattle.data_set_typing.specs.Plans as own;
 use crate::call::Call;
 use crate::known::KnownPlans;
 use crate::plan::Plan;
-use data_set_parts::nodes::{applied_shared, data_sets};
-use data_set_trees::{DataSet, Form, Operand};
+use data_set_parts::nodes::applied_shared;
+use data_set_trees::{Form, Operand};
 use scalar_trees::typing::TypeStop;
-use sqlite_items::{Boxed, Items};
+use sqlite_items::Items;
 use std::alloc::{AllocError, Global};
 use vtl_values::Place;
 
@@ -30,24 +30,6 @@ impl Call<'_> {
     }
 }
 
-/// A plan carried out on the data sets, or want of memory.
-fn carried_out(
-    alloc: Global,
-    place: Place,
-    plan: Plan,
-    sets: Items<DataSet>,
-) -> Result<Operand, AllocError>
-    ensures { IfOk result (λ operand. operand ≡ own.carried_out place plan sets) }
-{
-    match plan {
-        Plan::Scalar(typed) => Ok(Operand::Scalar(typed)),
-        Plan::Applied {
-            operator,
-            structure,
-        } => applied_shared(alloc, operator, place, sets, structure).map(Operand::DataSet),
-    }
-}
-
 /// A plan carried out on the data sets among the operands, or want of memory.
 fn finished(
     alloc: Global,
@@ -57,9 +39,13 @@ fn finished(
 ) -> Result<Operand, AllocError>
     ensures { IfOk result (λ operand. operand ≡ own.carried_out place plan (trees.data_sets operands)) }
 {
-    let plan = Boxed::new(alloc, plan)?;
-    let sets = data_sets(alloc, operands)?;
-    carried_out(alloc, place, plan.into_inner(), sets)
+    match plan {
+        Plan::Scalar(typed) => Ok(Operand::Scalar(typed)),
+        Plan::Applied {
+            operator,
+            structure,
+        } => applied_shared(alloc, operator, place, operands, structure).map(Operand::DataSet),
+    }
 }
 
 /// What a scalar operator at its place is on these operands: a scalar where all are, else a data set; or its first fault, or

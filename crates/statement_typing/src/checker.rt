@@ -61,9 +61,8 @@ impl<F: Fn(Global, &Names<'_>, &Expr) -> Result<Operand, TypeStop> + Copy> Check
         requires inside { size-Expr tree.now < size-Expr self.now.tree.now }
         ensures { Answers (meant.all_typed (meant.typing tree.now ∷ []) (naming_of self.now.names.now)) result }
     {
-        let operand = self.part(tree)?;
-        let mut operands = Items::new(self.alloc);
-        operands.push(operand)?;
+        let mut operands = Items::from_vec(Vec::with_capacity(self.alloc, 1)?);
+        operands.push(self.part(tree)?)?;
         Ok(operands)
     }
 
@@ -78,8 +77,9 @@ impl<F: Fn(Global, &Names<'_>, &Expr) -> Result<Operand, TypeStop> + Copy> Check
         requires right { size-Expr right.now < size-Expr self.now.tree.now }
         ensures { Answers (meant.all_typed (meant.typing left.now ∷ meant.typing right.now ∷ []) (naming_of self.now.names.now)) result }
     {
-        let mut operands = self.one(left)?;
-        operands.append(self.one(right)?)?;
+        let mut operands = Items::from_vec(Vec::with_capacity(self.alloc, 2)?);
+        operands.push(self.part(left)?)?;
+        operands.push(self.part(right)?)?;
         Ok(operands)
     }
 

@@ -4,4 +4,5 @@ pub mod PieceLemmas
 pub mod PlaceLemmas
 pub mod ReadTokens
 pub mod ScanLemmas
+pub mod SharedTexts
 pub mod TextLemmas

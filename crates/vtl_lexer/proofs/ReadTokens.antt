@@ -1,5 +1,5 @@
 -- What is read of a text is tokens that texts have.
-use Rattle.std.proofs.Common.{◌≡◌, ◌==◌, ℕ, zero, suc, ◌+◌, ◌-◌, ◌<◌, Bool, true, false, not, nat_lt, if◌then◌else◌, List, [], ◌∷◌, ◌++◌, length, take, drop, get_or, Option, Some, None, Result, Ok, Err, chars, ℤ, refl, sym, ap, subst, ◌∙◌, arith}
+use Rattle.std.proofs.Common.{◌≡◌, ◌==◌, ℕ, zero, suc, ◌+◌, ◌-◌, ◌<◌, Bool, true, false, not, nat_lt, if◌then◌else◌, List, [], ◌∷◌, length, take, drop, get_or, Option, Some, None, Result, Ok, Err, chars, ℤ, refl, sym, ap, subst, ◌∙◌, arith}
 use Rattle.std.proofs.Math.Utf8.{encodes}
 use Rattle.std.proofs.lemmas.Bool.Decides.{nat_tests}
 use Rattle.std.proofs.lemmas.List.{get_or-take, length-take}
@@ -9,7 +9,7 @@ use Rattle.std.proofs.lemmas.List.Sums.{fails_before_first, prefix_len-le-length
 use Rattle.std.proofs.lemmas.Str.{encodes-chars, scalars-chars, IsUtf8-from_is_utf8, IsUtf8-from_ascii}
 use Rattle.std.specs.Bool.{⊤}
 use Rattle.std.specs.Char.{is_ascii_digit, is_ascii_alphabetic}
-use Rattle.std.specs.List.{All, position_or_len, list_any}
+use Rattle.std.specs.List.{position_or_len, list_any}
 use Rattle.std.specs.Result.{result_map_both}
 use Rattle.std.specs.Str.{IsUtf8, is_utf8}
 use Rattle.vtl_values.specs.declared.kind.Kind.TheVariants.{Integer as IntegerKind, Number as NumberKind}
@@ -25,7 +25,7 @@ use Rattle.vtl_tokens.specs.declared.keyword.Keyword.{Keyword}
 use Rattle.vtl_tokens.specs.declared.sign.Sign.{Sign as SignOf}
 use Rattle.vtl_tokens.specs.declared.token.Token.{Token}
 use Rattle.vtl_tokens.specs.declared.token.TokenKind.{TokenKind}
-use Rattle.vtl_tokens.specs.declared.token.TokenKind.TheVariants.{Name, Text, Integer, Number, End}
+use Rattle.vtl_tokens.specs.declared.token.TokenKind.TheVariants.{Name, Text, Integer, Number}
 use Rattle.vtl_tokens.specs.Keywords.{keyword_of}
 use Rattle.vtl_lexer.specs.declared.start.Start.TheVariants.{Blank, LineComment, BlockComment, QuotedName, Text as TextStart, Literal, Word, Other}
 use Rattle.vtl_lexer.specs.declared.stop.LexFault.{LexFault}
@@ -37,7 +37,7 @@ use Rattle.vtl_lexer.specs.Pieces.{Piece, line_comment, block_comment, quoted_na
 use Rattle.vtl_lexer.specs.Places.{place_at, place_behind}
 use Rattle.vtl_lexer.specs.Texts.{Lexed, tokens_in, joined, piece_then, tokens_from, tokens_of}
 use Rattle.vtl_lexer.proofs.PieceLemmas.{word-IsAscii, word_len-some}
-use Rattle.vtl_lexer.specs.Tokens.{IsName, IsIntegerLiteral, IsNumberLiteral, IsToken, kinds_of, AreOfText}
+use Rattle.vtl_lexer.specs.Tokens.{IsName, IsIntegerLiteral, IsNumberLiteral, IsToken, AreOfText}
 use Rattle.vtl_lexer.proofs.CharBytes.{any-encodes, ends_name-PassesAscii}
 
 -- what is read is a token that texts have, or stands between tokens

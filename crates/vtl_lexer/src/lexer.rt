@@ -7,6 +7,7 @@ ghost use Rattle.vtl_lexer.specs.Texts.{tokens_in, joined, tokens_from, tokens_o
 ghost use Rattle.vtl_lexer.specs.Tokens.{AreOfText};
 
 use crate::piece::piece;
+use crate::shared::SharedNames;
 use crate::stop::{LexFault, LexStop, PieceStop};
 use std::alloc::{AllocError, Global};
 use vtl_tokens::{Token, TokenKind};
@@ -35,6 +36,7 @@ struct Lexer<'a> {
     rest: &'a [u8],
     place: Place,
     tokens: Vec<Token>,
+    names: SharedNames,
     ghost line: { 1 ≤ place.line },
     ghost column: { 1 ≤ place.column },
     // No place in the rest passes the range of lines and columns.
@@ -50,6 +52,7 @@ impl<'a> Lexer<'a> {
             rest: text,
             place: Place { line: 1, column: 1 },
             tokens: Vec::new(alloc),
+            names: SharedNames::new(alloc),
         }
     }
 
@@ -79,7 +82,7 @@ impl<'a> Lexer<'a> {
     {
         if let Some(what) = kind {
             self.tokens.push(Token {
-                what,
+                what: self.names.in_token(what)?,
                 place: self.place,
             })?;
         }

@@ -11,6 +11,7 @@ pub mod laws;
 pub mod lexer;
 pub mod piece;
 pub mod scan;
+mod shared;
 pub mod start;
 pub mod stop;
 

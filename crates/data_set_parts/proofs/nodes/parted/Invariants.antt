@@ -4,8 +4,8 @@ use Rattle.data_set_parts.proofs.nodes.parted.Given as goal
 
 abbrev pub invariant-loop-set : goal.invariant-loop-set
 invariant-loop-set l = record {
-  trees : map (λ (d : DataSet). d.tree) l.fn.sets ≡ l.trees ++ map (λ (d : DataSet). d.tree) l.sets;
-  structures : map (λ (d : DataSet). d.structure) l.fn.sets ≡ l.structures ++ map (λ (d : DataSet). d.structure) l.sets;
+  trees : map (λ (d : DataSet). d.tree) l.fn.sets ≡ l.parts.trees ++ map (λ (d : DataSet). d.tree) l.sets;
+  structures : map (λ (d : DataSet). d.structure) l.fn.sets ≡ l.parts.structures ++ map (λ (d : DataSet). d.structure) l.sets;
 }
 
 abbrev pub decreases-loop-set : goal.decreases-loop-set
