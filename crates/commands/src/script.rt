@@ -33,7 +33,7 @@ pub fn typed_script(alloc: Global, structures: Structures, text: &[u8]) -> Resul
     let script = read_tree(alloc, tokens.as_slice())?;
     drop(tokens);
     let written = written_out(alloc, script)?;
-    structures_of(alloc, &written, structures)
+    structures_of(alloc, written, structures)
 }
 
 /// The tokens of a text.

@@ -17,13 +17,13 @@ use vtl_values::Structures;
 /// itself, and no ruleset and no statement has a fault of types.
 pub fn structures_of(
     alloc: Global,
-    script: &Script,
+    script: Script,
     structures: Structures,
 ) -> Result<TypedScript, Stop>
-    requires { length script.now.statements ≤ 256 }
-    ensures go { IfOk result (λ typed. checked_structures structures script.now ≡ Ok typed) }
+    requires { length script.statements ≤ 256 }
+    ensures go { IfOk result (λ typed. checked_structures structures script ≡ Ok typed) }
     ensures inputs { IfOk result (λ typed. typed.inputs ≡ structures) }
-    ensures end { IfErr result (λ stop. Refuses stop (checked_structures structures script.now)) }
+    ensures end { IfErr result (λ stop. Refuses stop (checked_structures structures script)) }
     ensures kind { IfErr result IsRefusal }
 {
     match check_script(alloc, script, structures) {

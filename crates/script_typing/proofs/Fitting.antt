@@ -1,9 +1,9 @@
 -- The trees of a typed script fit, and its order has operands first.
-use Rattle.std.proofs.Common.{◌≡◌, inl, inr, ℕ, zero, suc, ◌<◌, ◌≤◌, Bool, true, false, List, [], ◌∷◌, ◌++◌, Option, Some, None, Ok, Err, if◌then◌else◌, nat_eq, length, slice_get, All, Contains, refl, sym, ap, ap₂, ◌∙◌, subst, arith, unwrap_or}
+use Rattle.std.proofs.Common.{◌≡◌, inl, inr, ℕ, zero, suc, ◌<◌, ◌≤◌, Bool, true, false, List, [], ◌∷◌, ◌++◌, Option, Some, None, Ok, Err, if◌then◌else◌, nat_eq, length, slice_get, All, Contains, refl, sym, ap, ◌∙◌, subst, arith, unwrap_or}
 use Rattle.std.specs.List.{list_all}
 use Rattle.std.specs.Option.{option_map}
 use Rattle.std.specs.Cmp.Lexicographic.{pointwise}
-use Rattle.std.proofs.lemmas.List.{length-replicate}
+use Rattle.std.proofs.lemmas.List.{length-map}
 use Rattle.std.proofs.lemmas.List.Elements.{All-cons, All-head, All-nil, All-weaker, Contains-append_left, Contains-append_cases, Contains-push, Contains-push_cases}
 use Rattle.std.proofs.lemmas.Option.{slice_get-map, get_or_from_slice_get}
 use Rattle.indexmap.proofs.MapLemmas.{Found-position}
@@ -36,11 +36,11 @@ use Rattle.fitting_trees.specs.Fitting.{IsFitting}
 use Rattle.literal_ranges.specs.Ranges.{literals_in_range, ruleset_in_range}
 use Rattle.statement_typing.specs.Names.{from, input_from, input_of}
 use Rattle.script_typing.specs.declared.state.State.{State}
-use Rattle.script_typing.specs.declared.state.State.TheVariants.{Idle, Has, Fails}
-use Rattle.script_typing.specs.States.{SoFar, data_set_of, comes_to, after_number, after_all, start}
-use Rattle.script_typing.specs.Scripts.{states_after, first_refusal, with_set, with_sets}
-use Rattle.script_typing.proofs.Walks.{after-long}
-use Rattle.script_typing.proofs.Progress.{HasSet, NoFault, Meets, kept, next, meets_next, all_have, set-same, not_after, there}
+use Rattle.script_typing.specs.declared.state.State.TheVariants.{Waits, Has, Fails}
+use Rattle.script_typing.specs.States.{SoFar, data_set_of, with_set, comes_to, after_turns, start}
+use Rattle.script_typing.specs.Scripts.{states_after, first_refusal, checked_in}
+use Rattle.script_typing.proofs.Walks.{turns-long}
+use Rattle.script_typing.proofs.Progress.{HasSet, NoFault, Meets, kept, next, meets_next, all_have, set-same, not_after}
 
 -- what typing gives fits
 abbrev pub TypingFits : Type 1
@@ -59,14 +59,14 @@ AreInRange ts = (k : ℕ) (t : Statement) → slice_get ts k ≡ Some t → lite
 same_some : {A : Type 0} (a b : A) → Some a ≡ Some b → a ≡ b
 same_some {A = A} a b e = ap (λ (o : Option A). unwrap_or o a) e
 
-set_or : DataSet → State → DataSet
-set_or d Idle = d
-set_or d (Has e) = e
-set_or d (Fails r) = d
+checked_or : CheckedStatement → State → CheckedStatement
+checked_or c (Waits t) = c
+checked_or c (Has e) = e
+checked_or c (Fails r) = c
 
-same_has : (d e : DataSet) → Some (Has d) ≡ Some (Has e) → d ≡ e
-unfolding set_or
-same_has d e h = ap (set_or d) (same_some (Has d) (Has e) h)
+same_has : (c e : CheckedStatement) → Some (Has c) ≡ Some (Has e) → c ≡ e
+unfolding checked_or
+same_has c e h = ap (checked_or c) (same_some (Has c) (Has e) h)
 
 -- a statement that has a data set has that of its expression
 typed_is : (r : SetAnswer) (place : Place) (d : DataSet) → (r >>= data_set_of place) ≡ Ok d → r ≡ Ok (operand.DataSet d)
@@ -74,34 +74,32 @@ typed_is (Ok (operand.DataSet x)) place d h = cc
 typed_is (Ok (operand.Scalar x)) place d h = absurd (cc h)
 typed_is (Err r) place d h = absurd (cc h)
 
--- ---- statements with their data sets
+-- ---- typed statements
 
-sets-long : (ts : List Statement) (states : List State) → ((i : ℕ) → i < length ts → HasSet states i) → length (with_sets ts states) ≡ length ts
-sets-long [] states have = refl
-sets-long (t ∷ ts) [] have = let h = have 0 (omega arith) in absurd (cc h.1)
-sets-long (t ∷ ts) (Idle ∷ states) have = let h = have 0 (omega arith) in absurd (cc h.1)
-sets-long (t ∷ ts) (Has d ∷ states) have = ap suc (sets-long ts states (λ i less. have (suc i) (omega arith)))
-sets-long (t ∷ ts) (Fails r ∷ states) have = let h = have 0 (omega arith) in absurd (cc h.1)
+-- each has a data set
+abbrev AllHave : List State → Type 0
+AllHave states = (i : ℕ) → i < length states → HasSet states i
 
-sets-at : (ts : List Statement) (states : List State) → ((i : ℕ) → i < length ts → HasSet states i) → (i : ℕ) (t : Statement) (d : DataSet) → slice_get ts i ≡ Some t → slice_get states i ≡ Some (Has d) → slice_get (with_sets ts states) i ≡ Some (with_set t d)
-sets-at [] states have i t d at has = absurd (cc at)
-sets-at (u ∷ ts) [] have i t d at has = absurd (cc has)
-sets-at (u ∷ ts) (Idle ∷ states) have i t d at has = let h = have 0 (omega arith) in absurd (cc h.1)
-sets-at (u ∷ ts) (Has e ∷ states) have zero t d at has = ap₂ (λ (s : Statement) (f : DataSet). Some (with_set s f)) (same_some u t at) (same_has e d has)
-sets-at (u ∷ ts) (Has e ∷ states) have (suc i) t d at has = sets-at ts states (λ j less. have (suc j) (omega arith)) i t d at has
-sets-at (u ∷ ts) (Fails r ∷ states) have i t d at has = let h = have 0 (omega arith) in absurd (cc h.1)
+checked-long : (states : List State) → AllHave states → length (checked_in states) ≡ length states
+checked-long [] have = refl
+checked-long (Waits t ∷ states) have = let h = have 0 (omega arith) in absurd (cc h.1)
+checked-long (Has c ∷ states) have = ap suc (checked-long states (λ i less. have (suc i) (omega arith)))
+checked-long (Fails r ∷ states) have = let h = have 0 (omega arith) in absurd (cc h.1)
+
+checked-at : (states : List State) → AllHave states → (i : ℕ) (c : CheckedStatement) → slice_get states i ≡ Some (Has c) → slice_get (checked_in states) i ≡ Some c
+checked-at [] have i c has = absurd (cc has)
+checked-at (Waits t ∷ states) have i c has = let h = have 0 (omega arith) in absurd (cc h.1)
+checked-at (Has e ∷ states) have zero c has = ap Some (same_has e c has)
+checked-at (Has e ∷ states) have (suc i) c has = checked-at states (λ j less. have (suc j) (omega arith)) i c has
+checked-at (Fails r ∷ states) have i c has = let h = have 0 (omega arith) in absurd (cc h.1)
 
 no_fault : (states : List State) → first_refusal states ≡ None → NoFault states
 no_fault [] none k r h = absurd (cc h)
-no_fault (Idle ∷ states) none zero r h = absurd (cc h)
-no_fault (Idle ∷ states) none (suc k) r h = no_fault states none k r h
-no_fault (Has d ∷ states) none zero r h = absurd (cc h)
-no_fault (Has d ∷ states) none (suc k) r h = no_fault states none k r h
+no_fault (Waits t ∷ states) none zero r h = absurd (cc h)
+no_fault (Waits t ∷ states) none (suc k) r h = no_fault states none k r h
+no_fault (Has c ∷ states) none zero r h = absurd (cc h)
+no_fault (Has c ∷ states) none (suc k) r h = no_fault states none k r h
 no_fault (Fails q ∷ states) none k r h = absurd (cc none)
-
-all-long : (g : Graph) (ts : List Statement) (is : List ℕ) (s : SoFar) → length (after_all g ts is s).states ≡ length s.states
-all-long g ts [] s = refl
-all-long g ts (i ∷ is) s = all-long g ts is (after_number g i (slice_get ts i) s) ∙ after-long g i (slice_get ts i) s
 
 -- ---- names
 
@@ -148,32 +146,33 @@ module _ (script : Script) where
 
   -- ---- one statement after another
 
-  module _ (law : TypingFits) (g : Graph) (ts : List Statement) (ranges : AreInRange ts) (end : List State) (none : NoFault end) (told : (k : ℕ) (t : Statement) (d : DataSet) → slice_get ts k ≡ Some t → slice_get end k ≡ Some (Has d) → slice_get script.statements k ≡ Some (with_set t d)) where
+  module _ (law : TypingFits) (g : Graph) (ts : List Statement) (ranges : AreInRange ts) (end : List State) (none : NoFault end) (told : (k : ℕ) (c : CheckedStatement) → slice_get end k ≡ Some (Has c) → slice_get script.statements k ≡ Some c) where
     record Fitted (done rest : List ℕ) : Type 0 where
       pub follows : FollowOperands script done rest
-      pub fit : (k : ℕ) (d : DataSet) → Contains rest k → slice_get end k ≡ Some (Has d) → Fits TakesOperands structures (expression_of d.tree) d.structure
+      pub fit : (k : ℕ) (c : CheckedStatement) → Contains rest k → slice_get end k ≡ Some (Has c) → Fits TakesOperands structures (expression_of c.tree) c.structure
 
-    fitted : (done rest : List ℕ) (s : SoFar) → Meets g ts done rest s → end ≡ (after_all g ts rest s).states → FitNames done s.naming → list_all ruleset_in_range s.naming.rulesets ≡ true → Fitted done rest
-    fitted done [] s m is names rules = record { follows = tt; fit = λ k d c h. absurd (let less = c.1 in omega arith) }
+    fitted : (done rest : List ℕ) (s : SoFar) → Meets g ts done rest s → end ≡ (after_turns g rest s).states → FitNames done s.naming → list_all ruleset_in_range s.naming.rulesets ≡ true → Fitted done rest
+    fitted done [] s m is names rules = record { follows = tt; fit = λ k c in_none h. absurd (let less = in_none.1 in omega arith) }
     fitted done (i ∷ is) s m ends names rules =
         let n = next g ts done is i s m (subst NoFault ends none) in
-        let after = comes_to i n.t (Has n.d) s in
-        let ends' : end ≡ (after_all g ts is after).states = ends ∙ ap (λ (z : SoFar). (after_all g ts is z).states) n.is in
-        let m' : Meets g ts (done ++ i ∷ []) is after = meets_next g ts done is i n.t n.d s m in
+        let c = with_set n.t n.d in
+        let after = comes_to i (Some (Has c)) s in
+        let ends' : end ≡ (after_turns g is after).states = ends ∙ ap (λ (z : SoFar). (after_turns g is z).states) n.is in
+        let m' : Meets g ts (done ++ i ∷ []) is after = meets_next g ts done is i c s m in
         let less : i < length s.states = subst (λ (q : ℕ). i < q) (sym m.long) (All-head (λ (j : ℕ). j < length ts) i is m.below) in
-        let stays : slice_get end i ≡ slice_get after.states i = ap (λ (xs : List State). slice_get xs i) ends' ∙ kept g ts is i after (not_after done i is m.once) in
-        let has : slice_get end i ≡ Some (Has n.d) = stays ∙ set-same s.states i (Has n.d) less in
-        let at : slice_get script.statements i ≡ Some (with_set n.t n.d) = told i n.t n.d n.at has in
+        let stays : slice_get end i ≡ slice_get after.states i = ap (λ (xs : List State). slice_get xs i) ends' ∙ kept g is i after (not_after done i is m.once) in
+        let has : slice_get end i ≡ Some (Has c) = stays ∙ set-same s.states i (Has c) less in
+        let at : slice_get script.statements i ≡ Some c = told i c has in
         let fit = law structures (IsOneOf done) s.naming n.t.expr n.d names rules (ranges i n.t n.at) (typed_is (typed s.naming n.t.expr) n.t.place n.d n.typed) in
         let rest = fitted (done ++ i ∷ []) is after m' ends' (λ name x e. next_name done i n.d (same_text n.t.name name) (s.naming.data_set name) x (ap (option_map (λ (c : CheckedStatement). c.structure)) at) (names name x) e) rules in
         record {
-          follows = (subst (λ (ns : List Source). All (IsOneOf done) ns) (sym (names-there script i (with_set n.t n.d) at)) fit.named, rest.follows);
-          fit = λ k d c h. elim (Contains-append_cases (i ∷ []) is k c) [
+          follows = (subst (λ (ns : List Source). All (IsOneOf done) ns) (sym (names-there script i c at)) fit.named, rest.follows);
+          fit = λ k other in_rest h. elim (Contains-append_cases (i ∷ []) is k in_rest) [
             | inl one ↦ elim (Contains-push_cases [] i k one) [
               | inl old ↦ absurd (let less = old.1 in omega arith)
-              | inr same ↦ subst (λ (x : DataSet). Fits TakesOperands structures (expression_of x.tree) x.structure) (same_has n.d d (sym has ∙ ap (slice_get end) same ∙ h)) fit.fits
+              | inr same ↦ subst (λ (x : CheckedStatement). Fits TakesOperands structures (expression_of x.tree) x.structure) (same_has c other (sym has ∙ ap (slice_get end) same ∙ h)) fit.fits
             ]
-            | inr more ↦ rest.fit k d more h
+            | inr more ↦ rest.fit k other more h
           ];
         }
 
@@ -184,33 +183,36 @@ module _ (law : TypingFits) (inputs : NamedStructures) (rulesets : List Ruleset)
   end = states_after inputs rulesets g ts order
 
   abbrev script : Script
-  script = record { inputs = inputs; statements = with_sets ts end; order = order }
+  script = record { inputs = inputs; statements = checked_in end; order = order }
 
-  begins : IsGraphOrder g order → length g ≡ length ts → Meets g ts [] order (start inputs rulesets (length ts))
+  begins : IsGraphOrder g order → length g ≡ length ts → Meets g ts [] order (start inputs rulesets ts)
   begins o all = record {
     once = o.once;
     below = subst (λ (n : ℕ). All (λ i. i < n) order) all o.below;
     follows = o.follows;
-    long = length-replicate (length ts) Idle;
+    long = length-map ts Waits;
     have = λ k c. absurd (let less = c.1 in omega arith);
+    wait = λ k t c at. slice_get-map Waits ts k ∙ ap (option_map Waits) at;
   }
+
+  end-long : length end ≡ length ts
+  end-long = turns-long g order (start inputs rulesets ts) ∙ length-map ts Waits
 
   pub fits_all : IsGraphOrder g order → length g ≡ length ts → length ts ≤ 256 → AreInRange ts → list_all ruleset_in_range rulesets ≡ true → first_refusal end ≡ None → IsTypedScript script
   fits_all o all few ranges rules none =
       let m = begins o all in
       let faultless : NoFault end = no_fault end none in
       let among : (k : ℕ) → k < length ts → Contains order k = λ k less. has-Contains order k (order_has g order o k (subst (λ (n : ℕ). k < n) (sym all) less)) in
-      let have : (k : ℕ) → k < length ts → HasSet end k = λ k less. all_have g ts [] order (start inputs rulesets (length ts)) m faultless k (among k less) in
-      let long : length (with_sets ts end) ≡ length ts = sets-long ts end have in
-      let done = fitted script law g ts ranges end faultless (sets-at ts end have) [] order (start inputs rulesets (length ts)) m refl (inputs_fit script [] rulesets) rules in
+      let have : AllHave end = λ k less. all_have g ts [] order (start inputs rulesets ts) m faultless k (among k (subst (λ (n : ℕ). k < n) end-long less)) in
+      let long : length (checked_in end) ≡ length ts = checked-long end have ∙ end-long in
+      let done = fitted script law g ts ranges end faultless (checked-at end have) [] order (start inputs rulesets ts) m refl (inputs_fit script [] rulesets) rules in
       record {
         few = subst (λ (n : ℕ). n ≤ 256) (sym long) few;
         typed = λ k other less.
             let within : k < length ts = subst (λ (n : ℕ). k < n) long less in
-            let h = have k within in
-            let t = there ts k within in
-            let at = sets-at ts end have k t.0 h.0 t.1 h.1 in
-            subst (FitsStatement TakesOperands script) (sym (get_or_from_slice_get (with_sets ts end) k (with_set t.0 h.0) other at)) (done.fit k h.0 (among k within) h.1);
+            let h = have k (subst (λ (n : ℕ). k < n) (sym end-long) within) in
+            let at = checked-at end have k h.0 h.1 in
+            subst (FitsStatement TakesOperands script) (sym (get_or_from_slice_get (checked_in end) k h.0 other at)) (done.fit k h.0 (among k within) h.1);
         ordered = record {
           all = o.all ∙ all ∙ sym long;
           below = subst (λ (n : ℕ). All (λ i. i < n) order) (all ∙ sym long) o.below;

@@ -20,7 +20,7 @@ use Rattle.literal_ranges.specs.Ranges.{literals_in_range, ruleset_in_range}
 use Rattle.fitting_trees.proofs.Expressions.{typed-fits}
 use Rattle.script_typing.specs.declared.state.State.{State}
 use Rattle.script_typing.specs.Stops.{of_graph}
-use Rattle.script_typing.specs.Scripts.{states_after, first_refusal, with_sets, unless_refused, statements_typed, IsStop}
+use Rattle.script_typing.specs.Scripts.{states_after, first_refusal, checked_in, unless_refused, statements_typed, IsStop}
 use Rattle.script_typing.proofs.Fitting.{TypingFits, AreInRange, fits_all}
 
 law : TypingFits
@@ -42,18 +42,18 @@ module _ (inputs : NamedStructures) (script : tree.Script) (g : Graph) (order : 
     same : states ≡ states_after inputs script.rulesets (graph_of script inputs) script.statements (order_of (graph_of script inputs))
     same = ss ∙ ap₂ (λ (h : Graph) (o : List ℕ). states_after inputs script.rulesets h script.statements o) gs os
 
-    pub typed_ok : (typed : List CheckedStatement) (s : Script) → first_refusal states ≡ None → typed ≡ with_sets script.statements states → s ≡ made inputs typed order → statements_typed inputs script ≡ Ok s
+    pub typed_ok : (typed : List CheckedStatement) (s : Script) → first_refusal states ≡ None → typed ≡ checked_in states → s ≡ made inputs typed order → statements_typed inputs script ≡ Ok s
     typed_ok typed s none ts is =
-        ap₂ unless_refused (ap first_refusal (sym same) ∙ none) (ap₂ (made inputs) (ap (with_sets script.statements) (sym same) ∙ sym ts) (sym os))
+        ap₂ unless_refused (ap first_refusal (sym same) ∙ none) (ap₂ (made inputs) (ap checked_in (sym same) ∙ sym ts) (sym os))
         ∙ ap Ok (sym is)
 
     pub typed_err : (r : Refusal) → first_refusal states ≡ Some r → statements_typed inputs script ≡ Err r
     typed_err r some =
-        ap (λ (o : Option Refusal). unless_refused o (made inputs (with_sets script.statements (states_after inputs script.rulesets (graph_of script inputs) script.statements (order_of (graph_of script inputs)))) (order_of (graph_of script inputs)))) (ap first_refusal (sym same) ∙ some)
+        ap (λ (o : Option Refusal). unless_refused o (made inputs (checked_in (states_after inputs script.rulesets (graph_of script inputs) script.statements (order_of (graph_of script inputs)))) (order_of (graph_of script inputs)))) (ap first_refusal (sym same) ∙ some)
 
-  pub owed : (typed : List CheckedStatement) → IsGraphOrder (graph_of script inputs) order → first_refusal states ≡ None → typed ≡ with_sets script.statements states → length script.statements ≤ 256 → All (λ (t : Statement). literals_in_range t.expr ≡ true) script.statements → list_all ruleset_in_range script.rulesets ≡ true → IsTypedScript (made inputs typed order)
+  pub owed : (typed : List CheckedStatement) → IsGraphOrder (graph_of script inputs) order → first_refusal states ≡ None → typed ≡ checked_in states → length script.statements ≤ 256 → All (λ (t : Statement). literals_in_range t.expr ≡ true) script.statements → list_all ruleset_in_range script.rulesets ≡ true → IsTypedScript (made inputs typed order)
   owed typed o none ts few ranges rules =
       let same : states ≡ states_after inputs script.rulesets (graph_of script inputs) script.statements order = ss ∙ ap (λ (h : Graph). states_after inputs script.rulesets h script.statements order) gs in
       let long : length (graph_of script inputs) ≡ length script.statements = length-map script.statements (uses_in (names_of script inputs)) in
-      subst (λ (xs : List CheckedStatement). IsTypedScript (made inputs xs order)) (ap (with_sets script.statements) (sym same) ∙ sym ts)
+      subst (λ (xs : List CheckedStatement). IsTypedScript (made inputs xs order)) (ap checked_in (sym same) ∙ sym ts)
       (fits_all law inputs script.rulesets (graph_of script inputs) script.statements order o long few (in_range script.statements ranges) rules (ap first_refusal (sym same) ∙ none))

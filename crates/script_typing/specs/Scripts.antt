@@ -1,5 +1,5 @@
 -- What a script is typed to be, or its first fault (docs/language.md, "Faults of structures").
-use Rattle.std.specs.Prelude.{◌≡◌, ℕ, List, [], ◌∷◌, Option, Some, None, Result, Ok, Err, length, ⊤}
+use Rattle.std.specs.Prelude.{◌≡◌, ℕ, List, [], ◌∷◌, Option, Some, None, Result, Ok, Err, ⊤}
 use Rattle.vtl_values.specs.Structures.{NamedStructures}
 use Rattle.vtl_syntax.specs.declared.ruleset.Ruleset.{Ruleset}
 use Rattle.vtl_syntax.specs.declared.script.Script as tree
@@ -9,38 +9,32 @@ use Rattle.script_graph.specs.Faults.{graph_of, first_fault}
 use Rattle.script_graph.specs.Orders.{order_of}
 use Rattle.scalar_trees.specs.declared.typing.stop.Refusal.{Refusal}
 use Rattle.scalar_trees.specs.typing.Steps.{◌>>=◌}
-use Rattle.data_set_trees.specs.declared.operand.DataSet.{DataSet}
 use Rattle.data_set_trees.specs.declared.checked.script.CheckedStatement.{CheckedStatement}
 use Rattle.data_set_trees.specs.checked.Scripts.{Script}
 use Rattle.ruleset_faults.specs.Rulesets.{rulesets_seen}
 use Rattle.script_typing.specs.declared.state.State.{State}
-use Rattle.script_typing.specs.declared.state.State.TheVariants.{Idle, Has, Fails}
+use Rattle.script_typing.specs.declared.state.State.TheVariants.{Waits, Has, Fails}
 use Rattle.script_typing.specs.declared.stop.ScriptStop.{ScriptStop}
 use Rattle.script_typing.specs.declared.stop.ScriptStop.TheVariants as stop
-use Rattle.script_typing.specs.States.{after_all, start}
+use Rattle.script_typing.specs.States.{after_turns, start}
 
 -- what the statements come to, typed in this order
 abbrev pub states_after : NamedStructures → List Ruleset → Graph → List Statement → List ℕ → List State
-states_after inputs rulesets g ts order = (after_all g ts order (start inputs rulesets (length ts))).states
+states_after inputs rulesets g ts order = (after_turns g order (start inputs rulesets ts)).states
 
 -- of the first statement in the script that has one
 abbrev pub first_refusal : List State → Option Refusal
 first_refusal [] = None
-first_refusal (Idle ∷ states) = first_refusal states
-first_refusal (Has d ∷ states) = first_refusal states
+first_refusal (Waits t ∷ states) = first_refusal states
+first_refusal (Has c ∷ states) = first_refusal states
 first_refusal (Fails r ∷ states) = Some r
 
--- a statement with the data set that it has
-abbrev pub with_set : Statement → DataSet → CheckedStatement
-with_set t d = record { name = t.name; persistent = t.persistent; tree = d.tree; structure = d.structure }
-
--- the statements with their data sets, up to the first that has none
-abbrev pub with_sets : List Statement → List State → List CheckedStatement
-with_sets [] states = []
-with_sets (t ∷ ts) [] = []
-with_sets (t ∷ ts) (Idle ∷ states) = []
-with_sets (t ∷ ts) (Has d ∷ states) = with_set t d ∷ with_sets ts states
-with_sets (t ∷ ts) (Fails r ∷ states) = []
+-- the typed statements, up to the first that has no data set
+abbrev pub checked_in : List State → List CheckedStatement
+checked_in [] = []
+checked_in (Waits t ∷ states) = []
+checked_in (Has c ∷ states) = c ∷ checked_in states
+checked_in (Fails r ∷ states) = []
 
 abbrev pub unless_refused : Option Refusal → Script → Result Script Refusal
 unless_refused None script = Ok script
@@ -50,7 +44,7 @@ unless_refused (Some r) script = Err r
 abbrev pub typed_in : NamedStructures → List Ruleset → Graph → List Statement → List ℕ → Result Script Refusal
 typed_in inputs rulesets g ts order =
     let states = states_after inputs rulesets g ts order in
-    unless_refused (first_refusal states) (record { inputs = inputs; statements = with_sets ts states; order = order })
+    unless_refused (first_refusal states) (record { inputs = inputs; statements = checked_in states; order = order })
 
 -- the statements over inputs of these structures, or the first fault of types that one of them has
 abbrev pub statements_typed : NamedStructures → tree.Script → Result Script Refusal

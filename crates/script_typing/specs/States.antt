@@ -1,5 +1,5 @@
 -- What the statements of a script come to, one after another (docs/language.md, "Faults of structures").
-use Rattle.std.specs.Prelude.{ℕ, List, [], ◌∷◌, Bool, true, false, Option, Some, None, Result, Ok, Err, replicate, set, slice_get, if◌then◌else◌}
+use Rattle.std.specs.Prelude.{ℕ, List, [], ◌∷◌, Bool, true, false, Option, Some, None, Result, Ok, Err, map, set, slice_get, if◌then◌else◌}
 use Rattle.std.specs.List.{list_all}
 use Rattle.vtl_values.specs.Texts.{same_text}
 use Rattle.vtl_values.specs.declared.place.Place.{Place}
@@ -14,10 +14,11 @@ use Rattle.data_set_trees.specs.declared.operand.DataSet.{DataSet}
 use Rattle.data_set_trees.specs.declared.operand.Operand.{Operand}
 use Rattle.data_set_trees.specs.declared.operand.Operand.TheVariants as operand
 use Rattle.data_set_trees.specs.declared.tree.Source.TheVariants as source
+use Rattle.data_set_trees.specs.declared.checked.script.CheckedStatement.{CheckedStatement}
 use Rattle.expression_rules.specs.Expressions.{Naming, typed}
 use Rattle.statement_typing.specs.Names.{from, input_of}
 use Rattle.script_typing.specs.declared.state.State.{State}
-use Rattle.script_typing.specs.declared.state.State.TheVariants.{Idle, Has, Fails}
+use Rattle.script_typing.specs.declared.state.State.TheVariants.{Waits, Has, Fails}
 
 -- ---- one statement
 
@@ -30,9 +31,13 @@ data_set_of place (operand.Scalar t) = refused WrongStructure place
 abbrev pub statement_typed : Naming → Statement → Result DataSet Refusal
 statement_typed naming t = typed naming t.expr >>= data_set_of t.place
 
-abbrev pub state_of : Result DataSet Refusal → State
-state_of (Ok d) = Has d
-state_of (Err r) = Fails r
+-- a statement with the data set that it has
+abbrev pub with_set : Statement → DataSet → CheckedStatement
+with_set t d = record { name = t.name; persistent = t.persistent; tree = d.tree; structure = d.structure }
+
+abbrev pub state_of : Statement → Result DataSet Refusal → State
+state_of t (Ok d) = Has (with_set t d)
+state_of t (Err r) = Fails r
 
 -- ---- one after another
 
@@ -43,41 +48,45 @@ pub record SoFar : Type 0 where
 
 abbrev pub has_set : Option State → Bool
 has_set None = false
-has_set (Some Idle) = false
-has_set (Some (Has d)) = true
+has_set (Some (Waits t)) = false
+has_set (Some (Has c)) = true
 has_set (Some (Fails r)) = false
 
 -- each of these statements has a data set
 abbrev pub all_have_sets : List State → List ℕ → Bool
 all_have_sets states numbers = list_all (λ k. has_set (slice_get states k)) numbers
 
+-- what a statement that uses these comes to in its turn: it is typed where all of them have data sets, and else passed over
+abbrev pub turn : Naming → List State → List ℕ → Option State → Option State
+turn naming states uses None = None
+turn naming states uses (Some (Waits t)) = if all_have_sets states uses then Some (state_of t (statement_typed naming t)) else None
+turn naming states uses (Some (Has c)) = None
+turn naming states uses (Some (Fails r)) = None
+
 -- the name of statement i stands for its result, where that has a data set
-abbrev pub with_result : ℕ → List ℕ → State → Naming → Naming
-with_result i name Idle naming = naming
-with_result i name (Has d) naming = record naming { data_set = λ other. if same_text name other then Some (from (source.Result i) d.structure) else naming.data_set other }
-with_result i name (Fails r) naming = naming
+abbrev pub with_result : ℕ → State → Naming → Naming
+with_result i (Waits t) naming = naming
+with_result i (Has c) naming = record naming { data_set = λ other. if same_text c.name other then Some (from (source.Result i) c.structure) else naming.data_set other }
+with_result i (Fails r) naming = naming
 
--- statement i comes to this
-abbrev pub comes_to : ℕ → Statement → State → SoFar → SoFar
-comes_to i t state s = record { naming = with_result i t.name state s.naming; states = set s.states i state }
+-- statement i comes to this, if to anything
+abbrev pub comes_to : ℕ → Option State → SoFar → SoFar
+comes_to i None s = s
+comes_to i (Some state) s = record { naming = with_result i state s.naming; states = set s.states i state }
 
--- statement i, which is typed where all that it uses have data sets, and else passed over
-abbrev pub after_statement : List ℕ → ℕ → Statement → SoFar → SoFar
-after_statement uses i t s = if all_have_sets s.states uses then comes_to i t (state_of (statement_typed s.naming t)) s else s
+-- the turn of statement i, which uses these
+abbrev pub after_turn : List ℕ → ℕ → SoFar → SoFar
+after_turn uses i s = comes_to i (turn s.naming s.states uses (slice_get s.states i)) s
 
-abbrev pub after_number : Graph → ℕ → Option Statement → SoFar → SoFar
-after_number g i None s = s
-after_number g i (Some t) s = after_statement (targets_of g i) i t s
+-- the turns of these, one after another; the graph has for each statement those that it uses
+abbrev pub after_turns : Graph → List ℕ → SoFar → SoFar
+after_turns g [] s = s
+after_turns g (i ∷ is) s = after_turns g is (after_turn (targets_of g i) i s)
 
--- the statements with these numbers, one after another; the graph has for each statement those that it uses
-abbrev pub after_all : Graph → List Statement → List ℕ → SoFar → SoFar
-after_all g ts [] s = s
-after_all g ts (i ∷ is) s = after_all g ts is (after_number g i (slice_get ts i) s)
+-- these statements, before the first had its turn
+abbrev pub all_wait : List Statement → List State
+all_wait ts = map Waits ts
 
--- so many that have come to nothing yet
-abbrev pub all_idle : ℕ → List State
-all_idle n = replicate n Idle
-
--- before the first of so many, names stand for inputs; these are the rulesets
-abbrev pub start : NamedStructures → List Ruleset → ℕ → SoFar
-start inputs rulesets n = record { naming = record { data_set = input_of inputs; rulesets = rulesets }; states = all_idle n }
+-- at first names stand for inputs; these are the rulesets
+abbrev pub start : NamedStructures → List Ruleset → List Statement → SoFar
+start inputs rulesets ts = record { naming = record { data_set = input_of inputs; rulesets = rulesets }; states = all_wait ts }

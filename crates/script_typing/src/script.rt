@@ -1,22 +1,22 @@
 // A script with its structures worked out.
-ghost use Rattle.std.specs.Prelude.{◌≡◌, ◌≤◌, ◌∷◌, [], true, None, Ok, All, length, reverse, IfOk, IfErr, MatchOption};
+ghost use Rattle.std.specs.Prelude.{◌≡◌, ◌≤◌, true, None, Ok, All, length, IfOk, IfErr};
 ghost use Rattle.vtl_syntax.specs.declared.script.Statement.{Statement as Statements};
 ghost use Rattle.script_graph.specs.Faults.{first_fault, graph_of};
 ghost use Rattle.script_graph.specs.Orders.{IsOrder, order_of};
 ghost use Rattle.literal_ranges.specs.Ranges.{literals_in_range};
 ghost use Rattle.script_typing.specs.Scripts as meant;
 
+use crate::lists::checked_in;
 use crate::state::State;
 use crate::stop::ScriptStop;
 use crate::typing::states_of;
-use data_set_trees::DataSet;
-use data_set_trees::checked::{CheckedStatement, TypedScript};
+use data_set_trees::checked::TypedScript;
 use literal_ranges::{see_literals, see_rulesets};
 use ruleset_faults::check_rulesets;
 use scalar_trees::typing::Refusal;
 use script_graph::{ScriptOrder, order};
 use sqlite_items::Items;
-use std::alloc::{AllocError, Global};
+use std::alloc::Global;
 use vtl_syntax::{Script, Statement};
 use vtl_values::Structures;
 
@@ -32,57 +32,6 @@ fn first_refusal(states: &[State]) -> Option<Refusal>
     None
 }
 
-/// The same states, the last one first.
-fn last_first(alloc: Global, mut states: Items<State>) -> Result<Items<State>, AllocError>
-    ensures { IfOk result (λ turned. turned ≡ reverse states) }
-{
-    let mut turned = Items::new(alloc);
-    while let Some(state) = states.pop() {
-        turned.push(state)?;
-    }
-    Ok(turned)
-}
-
-/// Takes the first state of those that stand the last one first.
-fn take_first(turned: &mut Items<State>) -> Option<State>
-    ensures { MatchOption result (reverse turned.old ≡ []) (λ first. reverse turned.old ≡ first ∷ reverse turned.new) }
-{
-    turned.pop()
-}
-
-fn with_set(statement: &Statement, set: DataSet) -> Result<CheckedStatement, AllocError>
-    ensures { IfOk result (λ typed. typed ≡ meant.with_set statement.now set) }
-{
-    let DataSet { tree, structure } = set;
-    Ok(CheckedStatement {
-        name: statement.name.copy()?,
-        persistent: statement.persistent,
-        tree,
-        structure,
-    })
-}
-
-/// The statements with the data sets that they have come to.
-fn with_sets(
-    alloc: Global,
-    statements: &[Statement],
-    states: Items<State>,
-) -> Result<Items<CheckedStatement>, AllocError>
-    ensures { IfOk result (λ typed. typed ≡ meant.with_sets statements.now states) }
-{
-    let mut turned = last_first(alloc, states)?;
-    let mut typed = Items::new(alloc);
-    for statement in statements {
-        match take_first(&mut turned) {
-            Some(State::Has(set)) => typed.push(with_set(statement, set)?)?,
-            Some(State::Fails(_)) => return Ok(typed),
-            Some(State::Idle) => return Ok(typed),
-            None => return Ok(typed),
-        }
-    }
-    Ok(typed)
-}
-
 /// Looks at the literals of each statement, which tells that all are in range.
 fn see_statements(statements: &[Statement])
     ensures { All (λ (t : Statements). literals_in_range t.expr ≡ true) statements.now }
@@ -96,25 +45,30 @@ fn see_statements(statements: &[Statement])
 /// want of memory.
 fn typed_in_order(
     alloc: Global,
-    script: &Script,
+    script: Script,
     structures: Structures,
     ordered: ScriptOrder,
 ) -> Result<TypedScript, ScriptStop>
-    requires few { length script.now.statements ≤ 256 }
-    requires order { IsOrder (graph_of script.now structures) ordered.order.items }
-    requires value { ordered.order.items ≡ order_of (graph_of script.now structures) }
-    requires uses { ordered.uses ≡ graph_of script.now structures }
-    ensures ok { IfOk result (λ typed. meant.statements_typed structures script.now ≡ Ok typed) }
+    requires few { length script.statements ≤ 256 }
+    requires order { IsOrder (graph_of script structures) ordered.order.items }
+    requires value { ordered.order.items ≡ order_of (graph_of script structures) }
+    requires uses { ordered.uses ≡ graph_of script structures }
+    ensures ok { IfOk result (λ typed. meant.statements_typed structures script ≡ Ok typed) }
     ensures inputs { IfOk result (λ typed. typed.inputs ≡ structures) }
-    ensures err { IfErr result (meant.IsStatementStop structures script.now) }
+    ensures err { IfErr result (meant.IsStatementStop structures script) }
 {
     let ScriptOrder { order, uses } = ordered;
-    let statements = script.statements.as_slice();
-    let rulesets = script.rulesets.as_slice();
+    let Script {
+        statements,
+        rulesets,
+        ..
+    } = script;
+    see_statements(statements.as_slice());
+    see_rulesets(rulesets.as_slice());
     let states = states_of(
         alloc,
         &structures,
-        rulesets,
+        rulesets.as_slice(),
         statements,
         uses.as_slice(),
         order.as_slice(),
@@ -122,9 +76,7 @@ fn typed_in_order(
     if let Some(refusal) = first_refusal(states.as_slice()) {
         return Err(ScriptStop::Refused(refusal));
     }
-    let typed = with_sets(alloc, statements, states)?;
-    see_statements(statements);
-    see_rulesets(rulesets);
+    let typed = checked_in(alloc, states)?;
     Ok(TypedScript::of(structures, typed, Items::from_vec(order)))
 }
 
@@ -137,20 +89,20 @@ fn typed_in_order(
 /// place. Each is told exactly where there is one; else want of memory alone.
 ///
 /// # Costs
-/// Each expression is typed once, and its literals are looked at once more; those of a ruleset are looked at once, and typed
-/// once for each use.
+/// Each expression is typed once, and its literals are looked at once before; those of a ruleset are looked at once, and typed
+/// once for each use. What was written of a statement goes as soon as the statement is typed.
 pub fn check_script(
     alloc: Global,
-    script: &Script,
+    script: Script,
     structures: Structures,
 ) -> Result<TypedScript, ScriptStop>
-    requires { length script.now.statements ≤ 256 }
-    ensures ok { IfOk result (λ typed. meant.typed_of structures script.now ≡ Ok typed) }
-    ensures graph { IfOk result (λ _. first_fault script.now structures ≡ None) }
+    requires { length script.statements ≤ 256 }
+    ensures ok { IfOk result (λ typed. meant.typed_of structures script ≡ Ok typed) }
+    ensures graph { IfOk result (λ _. first_fault script structures ≡ None) }
     ensures inputs { IfOk result (λ typed. typed.inputs ≡ structures) }
-    ensures err { IfErr result (meant.IsStop structures script.now) }
+    ensures err { IfErr result (meant.IsStop structures script) }
 {
-    let ordered = order(alloc, script, &structures)?;
+    let ordered = order(alloc, &script, &structures)?;
     check_rulesets(alloc, script.rulesets.as_slice())?;
     typed_in_order(alloc, script, structures, ordered)
 }
