@@ -1,7 +1,8 @@
-//! Cases of the program: its top call over a shelf and a sink in memory, and calls of a production.
+//! Answers all cases: those of the program, which are its top call over a shelf and a sink in memory, and calls of a
+//! production; and those of values and of the language, whose answers are in crates of their own.
 //!
 //! `data/` holds the cases, and `stdout` what must come of them by the rules that their files name. The folder of a file
-//! says of what its cases are, and the module of the same name what is written of them.
+//! says of what its cases are, and for cases of the program the module of the same name says what is written of them.
 #![tactic(auto)]
 
 mod program;
@@ -25,6 +26,13 @@ fn answer_cases<R: AllocGlobal + Files + Print + Threads + Wait + Sync>(
         bail!("{name} is in no folder");
     };
     match folder {
+        "values" => answer_file(
+            rt,
+            name,
+            &|alloc: Global, call: &str, words: &[Json]| {
+                value_cases::answer(rt, alloc, call, words)
+            },
+        ),
         "program" => program::run_file(rt, name),
         "rounds" => answer_file(
             rt,
@@ -33,7 +41,7 @@ fn answer_cases<R: AllocGlobal + Files + Print + Threads + Wait + Sync>(
                 rounds::answer(rt, alloc, script, words)
             },
         ),
-        _ => bail!("no cases of {folder}"),
+        _ => language_cases::answer_cases(rt, folder, name),
     }
 }
 

@@ -1,7 +1,7 @@
 //! Cases of values and of data: how values are read, written and ordered, arithmetic on numbers, operators on texts,
 //! patterns, the combination of viral codes, structure files, held operands, and the real shelf and sink.
 //!
-//! `data/` holds the cases, and `stdout` what must come of them by the rules that their files name.
+//! The cases themselves are data of the program that answers them (`program_cases`).
 #![tactic(auto)]
 
 mod decimals;
@@ -13,14 +13,12 @@ mod values;
 mod viral;
 
 use anyhow::{Result, bail};
-use case_files::lines::answer_file;
 use serde_json::Value;
 use std::alloc::Global;
-use std::env;
 use std::rt::Files;
 
-// The answer of the call that a case names.
-fn answer<R: Files>(rt: &R, alloc: Global, call: &str, words: &[Value]) -> Result<String> {
+/// The answer of the call that a case names. An error tells what the case lacks, or that there is no such call.
+pub fn answer<R: Files>(rt: &R, alloc: Global, call: &str, words: &[Value]) -> Result<String> {
     match call {
         "files" => edges::files(rt, alloc, words),
         "writes" => edges::writes(alloc, words),
@@ -50,15 +48,4 @@ fn text_answer(alloc: Global, call: &str, words: &[Value]) -> Result<String> {
         "match_characters" => texts::matched(alloc, words),
         _ => bail!("no call {call}"),
     }
-}
-
-fn main(rt: HostRuntime) -> Result<()> {
-    for name in env::args(&rt)?.skip(1) {
-        answer_file(
-            &rt,
-            name.as_str(),
-            &|alloc: Global, call: &str, words: &[Value]| { answer(&rt, alloc, call, words) },
-        )?;
-    }
-    Ok(())
 }
