@@ -24,12 +24,11 @@ fn item_typed(
 ) -> Result<AggregateItem, AllocError>
     ensures { IfOk result (λ item. item ≡ meant.item_typed stated name.now value) }
 {
-    let Typed { tree, kind } = value;
     Ok(AggregateItem {
         name: name.copy()?,
         role: role_of(stated, None),
-        kind: kind.unwrap_or(Kind::Truth),
-        value: tree,
+        kind: value.kind.unwrap_or(Kind::Truth),
+        value: value.into_tree(),
     })
 }
 

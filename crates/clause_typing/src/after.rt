@@ -286,5 +286,5 @@ pub fn components_after(
     ensures { IfOk result (λ after. after ≡ (meant.after clause.now (meant_frames.frame_of components.now)).components) }
 {
     let frame = nameless(alloc, components)?;
-    Ok(frame_after(alloc, clause, frame)?.components)
+    Ok(frame_after(alloc, clause, frame)?.into_components())
 }

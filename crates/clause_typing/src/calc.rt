@@ -64,12 +64,11 @@ pub fn item_typed(
         IfOk result (λ item. is_of frame.now item.kind item.value ≡ true) }
 {
     let number = bare_number_of(frame, name);
-    let Typed { tree, kind } = value;
     Ok(CheckedItem {
         target: target_of(number, name)?,
         role: role_of(stated, old_role(frame, number)),
-        kind: kind.unwrap_or(Kind::Text),
-        value: tree,
+        kind: value.kind.unwrap_or(Kind::Text),
+        value: value.into_tree(),
     })
 }
 

@@ -72,6 +72,7 @@ pub fn check_expr(
     ensures typed { IfOk result (λ checked. is_of_kind (kinds_of scope.now.columns basis) checked.0 checked.1 ≡ true) }
     ensures as_written { IfOk result (λ checked. resolved scope.now basis tree.now ≡ Some (erased checked.0)) }
 {
-    let Typed { tree, kind } = check_operand(alloc, scope, basis, tree)?;
-    Ok((tree, whole_kind(null_kind, kind)))
+    let typed = check_operand(alloc, scope, basis, tree)?;
+    let kind = whole_kind(null_kind, typed.kind);
+    Ok((typed.into_tree(), kind))
 }

@@ -29,12 +29,23 @@ pub enum SetOperation {
 
 /// A measure of a conditional: its name, its kind, and its value in each branch. In a branch that is a data set names are
 /// numbers of its components; one that is a scalar has none.
-#[derive(Drop)]
 pub struct ChoiceMeasure {
     pub name: Word,
     pub kind: Kind,
     pub holds: CheckedExpr,
     pub fails: CheckedExpr,
+}
+
+// Written out, so that who drops one calls this and doesn't go through what is in it.
+impl Drop for ChoiceMeasure {
+    fn drop(self) {
+        let ChoiceMeasure {
+            name: _,
+            kind: _,
+            holds: _,
+            fails: _,
+        } = self;
+    }
 }
 
 /// What a branch of a conditional is: the next data set among the operands, or a scalar.
@@ -45,7 +56,6 @@ pub enum Branch {
 }
 
 /// An operator on data sets, with all that its form says but its data set operands.
-#[derive(Drop)]
 pub enum DataSetOperator {
     /// A clause; a scalar operator on one data set and constants; `a#c`.
     Clause(CheckedClause),
@@ -84,6 +94,32 @@ pub enum DataSetOperator {
     Datapoint(CheckedDatapoint),
     /// `hierarchy(a, rules ..)`, `check_hierarchy(a, rules ..)`
     Hierarchy(CheckedHierarchy),
+}
+
+// Written out, so that who drops one calls this and doesn't go through what is in it.
+impl Drop for DataSetOperator {
+    fn drop(self) {
+        match self {
+            DataSetOperator::Clause(_) => {}
+            DataSetOperator::Pair { measures: _ } => {}
+            DataSetOperator::Choice {
+                holds: _,
+                fails: _,
+                measures: _,
+            } => {}
+            DataSetOperator::ExistsIn { rows: _ } => {}
+            DataSetOperator::Set(_) => {}
+            DataSetOperator::Join(_) => {}
+            DataSetOperator::InJoin(_) => {}
+            DataSetOperator::Aggregate(_) => {}
+            DataSetOperator::Window(_) => {}
+            DataSetOperator::WindowInJoin(_) => {}
+            DataSetOperator::Time(_) => {}
+            DataSetOperator::Check(_) => {}
+            DataSetOperator::Datapoint(_) => {}
+            DataSetOperator::Hierarchy(_) => {}
+        }
+    }
 }
 
 /// A name, or an operator on its operands.

@@ -26,11 +26,10 @@ fn checked_measure(
 ) -> Result<CheckedMeasure, AllocError>
     ensures { IfOk result (λ measure. measure ≡ meant.checked_measure (unwrap_or changed.now name.now) typed) }
 {
-    let Typed { tree, kind } = typed;
     Ok(CheckedMeasure {
         name: new_name(changed, name)?,
-        kind: kind.unwrap_or(Kind::Truth),
-        value: tree,
+        kind: typed.kind.unwrap_or(Kind::Truth),
+        value: typed.into_tree(),
     })
 }
 

@@ -11,51 +11,6 @@ use std::alloc::{AllocError, Global};
 use tree_copies::copy_optional_word;
 use vtl_syntax::{DatapointRule, DatapointRules, Expr, HierarchyRule, HierarchyRules, Ruleset};
 
-/// What a rule says, written.
-#[derive(Drop)]
-struct RuleParts {
-    condition: Option<Expr>,
-    expr: Expr,
-}
-
-/// The rule that says this.
-fn datapoint_of(rule: &DatapointRule, parts: RuleParts) -> Result<DatapointRule, AllocError>
-    ensures { IfOk result (λ made. made ≡ record { name = rule.now.name; condition = parts.condition; expr = parts.expr; fault = rule.now.fault; place = rule.now.place }) }
-{
-    let name = copy_optional_word(&rule.name)?;
-    let fault = copy_fault(&rule.fault)?;
-    Ok(DatapointRule {
-        name,
-        condition: parts.condition,
-        expr: parts.expr,
-        fault,
-        place: rule.place,
-    })
-}
-
-/// The rule with this condition.
-fn hierarchy_of(
-    alloc: Global,
-    rule: &HierarchyRule,
-    condition: Option<Expr>,
-) -> Result<HierarchyRule, AllocError>
-    ensures { IfOk result (λ made. made ≡ record rule.now { condition = condition }) }
-{
-    let name = copy_optional_word(&rule.name)?;
-    let others = copy_signed_names(alloc, rule.others.as_slice())?;
-    Ok(HierarchyRule {
-        name,
-        condition,
-        left: rule.left.copy()?,
-        relation: rule.relation,
-        sign: rule.sign,
-        first: rule.first.copy()?,
-        others,
-        fault: copy_fault(&rule.fault)?,
-        place: rule.place,
-    })
-}
-
 impl Writer<'_> {
     fn condition(&self, alloc: Global, tree: &Option<Expr>) -> Result<Option<Expr>, AllocError>
         ensures { IfOk result (λ made. made ≡ option_map (writes self.now) tree.now) }
@@ -66,19 +21,19 @@ impl Writer<'_> {
         }
     }
 
+    // The expressions come last, so that nothing that may fail has them to drop.
     fn datapoint(&self, alloc: Global, rule: &DatapointRule) -> Result<DatapointRule, AllocError>
         ensures { IfOk result (λ made. made ≡ datapoint_with (writes self.now) rule.now) }
     {
-        let parts = self.parts(alloc, rule)?;
-        datapoint_of(rule, parts)
-    }
-
-    fn parts(&self, alloc: Global, rule: &DatapointRule) -> Result<RuleParts, AllocError>
-        ensures { IfOk result (λ made. made ≡ record { condition = option_map (writes self.now) rule.now.condition; expr = writes self.now rule.now.expr }) }
-    {
-        Ok(RuleParts {
-            condition: self.condition(alloc, &rule.condition)?,
+        let name = copy_optional_word(&rule.name)?;
+        let fault = copy_fault(&rule.fault)?;
+        let condition = self.condition(alloc, &rule.condition)?;
+        Ok(DatapointRule {
+            name,
+            condition,
             expr: self.write(alloc, &rule.expr)?,
+            fault,
+            place: rule.place,
         })
     }
 
@@ -99,7 +54,22 @@ impl Writer<'_> {
     fn hierarchy(&self, alloc: Global, rule: &HierarchyRule) -> Result<HierarchyRule, AllocError>
         ensures { IfOk result (λ made. made ≡ hierarchy_with (writes self.now) rule.now) }
     {
-        hierarchy_of(alloc, rule, self.condition(alloc, &rule.condition)?)
+        let name = copy_optional_word(&rule.name)?;
+        let left = rule.left.copy()?;
+        let first = rule.first.copy()?;
+        let others = copy_signed_names(alloc, rule.others.as_slice())?;
+        let fault = copy_fault(&rule.fault)?;
+        Ok(HierarchyRule {
+            name,
+            condition: self.condition(alloc, &rule.condition)?,
+            left,
+            relation: rule.relation,
+            sign: rule.sign,
+            first,
+            others,
+            fault,
+            place: rule.place,
+        })
     }
 
     fn hierarchies(

@@ -38,18 +38,8 @@ fn numbered_one(
     requires { number < 64 }
     ensures { IfOk result (λ made. made ≡ record (parts.unlisted component.now) { name = (48 + number) ∷ [] }) }
 {
-    let Component {
-        name: _,
-        role,
-        kind,
-        codes,
-    } = unlisted(component)?;
-    Ok(Component {
-        name: digit(alloc, number)?,
-        role,
-        kind,
-        codes,
-    })
+    let name = digit(alloc, number)?;
+    Ok(unlisted(component)?.renamed(name))
 }
 
 /// The components without their code lists, called by their numbers. Or want of memory.

@@ -7,6 +7,7 @@ use data_model::steps::Steps;
 use data_set_trees::DataSetNode;
 use held_index::{DeltaRule, Held, Stop, Want};
 use point_sets::Delta;
+use sqlite_items::Boxed;
 use std::alloc::{AllocError, Global};
 use std::marker::Model;
 use std::sync::Arc;
@@ -16,7 +17,7 @@ use vtl_values::Structure;
 
 /// The rule of an operator that is built. It is seen as its operator.
 pub struct OperatorRule {
-    family: FamilyRule,
+    family: Boxed<FamilyRule>,
 }
 
 impl Model for OperatorRule {
@@ -50,7 +51,9 @@ impl OperatorRule {
         ensures { IfOk result (λ rule. rule ≡ an_operator node.now.operator node.now.operands node.now.structure) }
     {
         let family = FamilyRule::of(alloc, node)?;
-        Ok(OperatorRule { family })
+        Ok(OperatorRule {
+            family: Boxed::new(alloc, family)?,
+        })
     }
 }
 
@@ -75,11 +78,11 @@ impl DeltaRule for OperatorRule {
     ghost rests = { no_rule_reach };
 
     fn wants(&self) -> &[Want] {
-        self.family.wants()
+        self.family.get().wants()
     }
 
     fn result(&self) -> &Structure {
-        self.family.result()
+        self.family.get().result()
     }
 
     fn delta<R: Threads + Sync, L: Ledger>(
@@ -91,6 +94,8 @@ impl DeltaRule for OperatorRule {
         news: &[Arc<Delta>],
         steps: &mut Steps<L>,
     ) -> Result<Delta, Stop> {
-        self.family.delta(rt, alloc, before, held, news, steps)
+        self.family
+            .get()
+            .delta(rt, alloc, before, held, news, steps)
     }
 }

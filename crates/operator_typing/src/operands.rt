@@ -29,10 +29,12 @@ pub(crate) fn or_refused<T: Copy>(
 pub fn widened(alloc: Global, wanted: Kind, operand: Typed) -> Result<CheckedExpr, AllocError>
     ensures { IfOk result (λ tree. tree ≡ meant.widened wanted operand) }
 {
-    let Typed { tree, kind } = operand;
-    match (wanted, kind) {
-        (Kind::Number, Some(Kind::Integer)) => Ok(CheckedExpr::Widened(Boxed::new(alloc, tree)?)),
-        _ => Ok(tree),
+    match (wanted, operand.kind) {
+        (Kind::Number, Some(Kind::Integer)) => Ok(CheckedExpr::Widened(Boxed::new(
+            alloc,
+            operand.into_tree(),
+        )?)),
+        _ => Ok(operand.into_tree()),
     }
 }
 

@@ -27,9 +27,16 @@ pub struct Change {
 
 /// The changes that lead from one data set to another, in the order of their keys. Contracts see it as the map from
 /// keys to the values before and after; they differ in each change, and each point has its change's key.
-#[derive(Debug, Drop)]
+#[derive(Debug)]
 pub struct Delta {
     changes: Vec<Change>,
+}
+
+// Written out, so that who drops one calls this and doesn't go through what is in it.
+impl Drop for Delta {
+    fn drop(self) {
+        let Delta { changes: _ } = self;
+    }
 }
 
 impl Model for Delta {

@@ -26,9 +26,15 @@ impl Model for Built {
 }
 
 /// A built pattern of `match_characters`, which copies share. Contracts see the characters of its text.
-#[derive(Drop)]
 pub struct SharedPattern {
     built: Arc<Built>,
+}
+
+// Written out, so that who drops one calls this and doesn't go through what is in it.
+impl Drop for SharedPattern {
+    fn drop(self) {
+        let SharedPattern { built: _ } = self;
+    }
 }
 
 impl Model for SharedPattern {

@@ -8,9 +8,15 @@ use std::marker::Model;
 use vtl_values::Word;
 
 /// Words, each once. Contracts see them as their list.
-#[derive(Drop)]
 pub(crate) struct Names<'a> {
     words: IndexSet<&'a Word>,
+}
+
+// Written out, so that who drops one calls this and doesn't go through what is in it.
+impl<'a> Drop for Names<'a> {
+    fn drop(self) {
+        let Names { words: _ } = self;
+    }
 }
 
 impl<'a> Model for Names<'a> {

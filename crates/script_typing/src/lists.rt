@@ -5,7 +5,7 @@ ghost use Rattle.script_typing.specs.Scripts as meant;
 
 use crate::state::State;
 use data_set_trees::checked::CheckedStatement;
-use sqlite_items::Items;
+use sqlite_items::{Boxed, Items};
 use std::alloc::{AllocError, Global};
 use vtl_syntax::Statement;
 
@@ -30,7 +30,7 @@ pub(crate) fn all_wait(
     let mut turned = last_first(alloc, statements)?;
     let mut states = Items::new(alloc);
     while let Some(statement) = turned.pop() {
-        states.push(State::Waits(statement))?;
+        states.push(State::Waits(Boxed::new(alloc, statement)?))?;
     }
     Ok(states)
 }

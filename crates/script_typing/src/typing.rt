@@ -88,7 +88,7 @@ fn turn(
     match at(states, number as usize) {
         Some(State::Waits(statement)) => {
             if all_have_sets(states, uses) {
-                Ok(Some(typed(alloc, names, statement)?))
+                Ok(Some(typed(alloc, names, statement.get())?))
             } else {
                 Ok(None)
             }

@@ -59,9 +59,16 @@ impl NewCodes {
 
 /// The codes that a component may have, each once; those of a viral attribute stand by rising rank. Contracts see the
 /// list of them. Copies share the codes.
-#[derive(Debug, Drop)]
+#[derive(Debug)]
 pub struct CodeList {
     codes: Arc<NewCodes>,
+}
+
+// Written out, so that who drops one calls this and doesn't go through what is in it.
+impl Drop for CodeList {
+    fn drop(self) {
+        let CodeList { codes: _ } = self;
+    }
 }
 
 impl Model for CodeList {

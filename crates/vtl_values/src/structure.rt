@@ -30,12 +30,24 @@ impl Codes {
 }
 
 /// A column of a data set.
-#[derive(Debug, Drop)]
+#[derive(Debug)]
 pub struct Component {
     pub name: Word,
     pub role: Role,
     pub kind: Kind,
     pub codes: Codes,
+}
+
+// Written out, so that who drops one calls this and doesn't go through what is in it.
+impl Drop for Component {
+    fn drop(self) {
+        let Component {
+            name: _,
+            role: _,
+            kind: _,
+            codes: _,
+        } = self;
+    }
 }
 
 impl Component {
@@ -50,13 +62,38 @@ impl Component {
             codes: self.codes.copy()?,
         })
     }
+
+    /// The component under another name.
+    pub fn renamed(self, name: Word) -> Component
+        ensures { result ≡ record self { name = name } }
+    {
+        let Component {
+            name: _,
+            role,
+            kind,
+            codes,
+        } = self;
+        Component {
+            name,
+            role,
+            kind,
+            codes,
+        }
+    }
 }
 
 /// The components of a data set in their order: identifiers, measures, attributes, viral attributes. Contracts see it
 /// as the list of them. Copies share the components.
-#[derive(Debug, Drop)]
+#[derive(Debug)]
 pub struct Structure {
     components: Arc<Items<Component>>,
+}
+
+// Written out, so that who drops one calls this and doesn't go through what is in it.
+impl Drop for Structure {
+    fn drop(self) {
+        let Structure { components: _ } = self;
+    }
 }
 
 impl Model for Structure {

@@ -40,9 +40,14 @@ pub fn scalar_item(
     ensures item { IfOk result (λ item. item ≡ meant.scalar_item frame.now stated name.now value) }
     ensures made { IfOk result (meant.IsItemOf frame.now) }
 {
-    let Typed { tree, kind } = value;
-    let kind = kind.unwrap_or(Kind::Text);
-    item_typed(frame, stated, name, kind, AnalyticValue::Scalar(tree))
+    let kind = value.kind.unwrap_or(Kind::Text);
+    item_typed(
+        frame,
+        stated,
+        name,
+        kind,
+        AnalyticValue::Scalar(value.into_tree()),
+    )
 }
 
 /// An item of `calc` that is analytic, by its head and the kind and the operator of its value, or want of memory. Its

@@ -7,12 +7,23 @@ use std::marker::Model;
 use vtl_values::{Structure, Structures, Word};
 
 /// A result, whether it is published (`<-`) or only used (`:=`), how it is worked out, and its structure.
-#[derive(Drop)]
 pub struct CheckedStatement {
     pub name: Word,
     pub persistent: bool,
     pub tree: DataSetTree,
     pub structure: Structure,
+}
+
+// Written out, so that who drops one calls this and doesn't go through what is in it.
+impl Drop for CheckedStatement {
+    fn drop(self) {
+        let CheckedStatement {
+            name: _,
+            persistent: _,
+            tree: _,
+            structure: _,
+        } = self;
+    }
 }
 
 /// A script whose structures are worked out: the structures of its inputs, its statements in the order of the script, and

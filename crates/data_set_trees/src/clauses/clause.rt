@@ -4,7 +4,6 @@ use sqlite_items::Items;
 use vtl_values::{Kind, Role, Value, Word};
 
 /// A clause whose names are numbers of components of the frame that it works on.
-#[derive(Drop)]
 pub enum CheckedClause {
     /// Keeps the points at which the condition is true.
     Filter { condition: CheckedExpr },
@@ -25,6 +24,25 @@ pub enum CheckedClause {
     Measures { items: Items<CheckedMeasure> },
 }
 
+// Written out, so that who drops one calls this and doesn't go through what is in it.
+impl Drop for CheckedClause {
+    fn drop(self) {
+        match self {
+            CheckedClause::Filter { condition: _ } => {}
+            CheckedClause::Calc { items: _ } => {}
+            CheckedClause::Keep { components: _ } => {}
+            CheckedClause::Drop { components: _ } => {}
+            CheckedClause::Rename { renames: _ } => {}
+            CheckedClause::Sub { items: _ } => {}
+            CheckedClause::Unpivot {
+                identifier: _,
+                measure: _,
+            } => {}
+            CheckedClause::Measures { items: _ } => {}
+        }
+    }
+}
+
 /// What an item of `calc` is put into: the component with this number, or a new one of this name.
 #[derive(Debug, Drop)]
 pub enum Target {
@@ -33,12 +51,23 @@ pub enum Target {
 }
 
 /// An item of `calc`: the role and the kind that its target has afterwards, and its value.
-#[derive(Drop)]
 pub struct CheckedItem {
     pub target: Target,
     pub role: Role,
     pub kind: Kind,
     pub value: CheckedExpr,
+}
+
+// Written out, so that who drops one calls this and doesn't go through what is in it.
+impl Drop for CheckedItem {
+    fn drop(self) {
+        let CheckedItem {
+            target: _,
+            role: _,
+            kind: _,
+            value: _,
+        } = self;
+    }
 }
 
 /// The component with this number, and its new name.
@@ -56,9 +85,19 @@ pub struct CheckedSubItem {
 }
 
 /// A measure that is worked out: its name, its kind and its value.
-#[derive(Drop)]
 pub struct CheckedMeasure {
     pub name: Word,
     pub kind: Kind,
     pub value: CheckedExpr,
+}
+
+// Written out, so that who drops one calls this and doesn't go through what is in it.
+impl Drop for CheckedMeasure {
+    fn drop(self) {
+        let CheckedMeasure {
+            name: _,
+            kind: _,
+            value: _,
+        } = self;
+    }
 }

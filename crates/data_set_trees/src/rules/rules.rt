@@ -23,18 +23,37 @@ pub struct PointRule {
 }
 
 /// `check_datapoint(ds, rules output)`
-#[derive(Drop)]
 pub struct CheckedDatapoint {
     pub rules: Items<PointRule>,
     pub output: RowsOutput,
 }
 
+// Written out, so that who drops one calls this and doesn't go through what is in it.
+impl Drop for CheckedDatapoint {
+    fn drop(self) {
+        let CheckedDatapoint {
+            rules: _,
+            output: _,
+        } = self;
+    }
+}
+
 /// `check(ds errorcode .. errorlevel .. imbalance .. output)`, with the imbalance as a second operand, if there is one.
-#[derive(Drop)]
 pub struct CheckedCheck {
     pub error: RuleError,
     pub has_imbalance: bool,
     pub output: CheckOutput,
+}
+
+// Written out, so that who drops one calls this and doesn't go through what is in it.
+impl Drop for CheckedCheck {
+    fn drop(self) {
+        let CheckedCheck {
+            error: _,
+            has_imbalance: _,
+            output: _,
+        } = self;
+    }
 }
 
 /// An item of a rule with its sign.
@@ -66,7 +85,6 @@ pub struct HierarchyContent {
 }
 
 /// `hierarchy(ds, rules ..)` and `check_hierarchy(ds, rules ..)`
-#[derive(Drop)]
 pub enum CheckedHierarchy {
     Computed {
         content: HierarchyContent,
@@ -78,4 +96,22 @@ pub enum CheckedHierarchy {
         input: CheckInput,
         output: RowsOutput,
     },
+}
+
+// Written out, so that who drops one calls this and doesn't go through what is in it.
+impl Drop for CheckedHierarchy {
+    fn drop(self) {
+        match self {
+            CheckedHierarchy::Computed {
+                content: _,
+                input: _,
+                output: _,
+            } => {}
+            CheckedHierarchy::Checked {
+                content: _,
+                input: _,
+                output: _,
+            } => {}
+        }
+    }
 }

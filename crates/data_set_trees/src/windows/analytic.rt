@@ -68,7 +68,6 @@ pub enum AnalyticValue {
 }
 
 /// An item of `calc`: the role and the kind that its target has afterwards, and its value.
-#[derive(Drop)]
 pub struct AnalyticItem {
     pub target: Target,
     pub role: Role,
@@ -76,12 +75,33 @@ pub struct AnalyticItem {
     pub value: AnalyticValue,
 }
 
+// Written out, so that who drops one calls this and doesn't go through what is in it.
+impl Drop for AnalyticItem {
+    fn drop(self) {
+        let AnalyticItem {
+            target: _,
+            role: _,
+            kind: _,
+            value: _,
+        } = self;
+    }
+}
+
 /// Analytic operators on one data set, or on what a join has.
-#[derive(Drop)]
 pub enum CheckedWindow {
     /// Works out measures in place of those that there are, as `sum(ds over ..)` does. Identifiers and viral attributes
     /// stay.
     Measures { items: Items<AnalyticMeasure> },
     /// `calc` with an item that is analytic.
     Calc { items: Items<AnalyticItem> },
+}
+
+// Written out, so that who drops one calls this and doesn't go through what is in it.
+impl Drop for CheckedWindow {
+    fn drop(self) {
+        match self {
+            CheckedWindow::Measures { items: _ } => {}
+            CheckedWindow::Calc { items: _ } => {}
+        }
+    }
 }

@@ -20,11 +20,22 @@ pub struct Column {
 
 /// A name, and the number of the component that it stands for. With an alias it is `alias#name`, which is what a
 /// component of one operand of a join is called.
-#[derive(Debug, Drop)]
+#[derive(Debug)]
 pub struct ScopeName {
     pub alias: Option<Word>,
     pub name: Word,
     pub number: u64,
+}
+
+// Written out, so that who drops one calls this and doesn't go through what is in it.
+impl Drop for ScopeName {
+    fn drop(self) {
+        let ScopeName {
+            alias: _,
+            name: _,
+            number: _,
+        } = self;
+    }
 }
 
 /// What the names in an expression stand for. A component may have several names; in a ruleset a variable with an alias

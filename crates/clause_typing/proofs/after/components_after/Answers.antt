@@ -7,4 +7,4 @@ use Rattle.clause_typing.proofs.after.components_after.Goals as goal
 pub returns : goal.returns
 returns c =
     let cs : Frame → _ = λ f. f.components in
-    ap cs c.in_ok-frame_after.ensures ∙ after_same c.args.clause.now c.in_ok-frame.frame (frame_of c.args.components.now) (ap cs c.in_ok-frame.ensures)
+    c.into_components.ensures ∙ ap cs c.in_ok-frame_after.ensures ∙ after_same c.args.clause.now c.in_ok-frame.frame (frame_of c.args.components.now) (ap cs c.in_ok-frame.ensures)

@@ -9,6 +9,6 @@ pub returns-clause-made : goal.returns-clause-made
 returns-clause-made c =
     let frame = c.args.frame.now in
     let kind = c.unwrap_or-kind.result in
-    let v = value.Scalar c.args.value.tree in
+    let v = value.Scalar c.into_tree.result in
     IfOk-weaker c.item_typed.result (λ (item : AnalyticItem). item ≡ item_typed frame c.args.stated c.args.name.now kind v) (IsItemOf frame)
     (λ item is. record { stated = c.args.stated; name = c.args.name.now; kind = kind; value = v; is = is }) c.item_typed.ensures

@@ -9,12 +9,12 @@ loop-next-preserved c =
     let next = c.in-Some.next in
     let all = into_iter_items at.next-iterator in
     let rest = into_iter_items c.next.new.self in
-    let change = c.index_mut-in-loop-next-3.result.now in
+    let change = c.index_mut-in-loop-next.result.now in
     let steps : all ≡ next ∷ rest = c.in-Some.ensures.steps.0 in
     record {
       count = let was = at.invariant.count in let gone = c.in-Some.ensures.steps.1 in let short = ap length steps in omega arith;
       numbers = has_still at.self next.set next.value (record change { newer = next.newer }) all rest next steps at.invariant.numbers;
-      put = λ bases tos nows afters k h l. next_put bases tos nows afters all rest next at.self _ change steps (at.invariant.put bases tos nows afters k h l) (has_next at.self all rest next steps at.invariant.numbers) refl refl c.index_mut-in-loop-next-3.ensures.value;
+      put = λ bases tos nows afters k h l. next_put bases tos nows afters all rest next at.self _ change steps (at.invariant.put bases tos nows afters k h l) (has_next at.self all rest next steps at.invariant.numbers) refl refl c.index_mut-in-loop-next.ensures.value;
     }
 
 pub returns : goal.returns
